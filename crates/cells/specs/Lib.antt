@@ -1,0 +1,5 @@
+pub mod Versions
+pub mod Listed
+pub mod Cells
+pub mod Laws
+pub mod Encodings

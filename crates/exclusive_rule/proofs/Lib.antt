@@ -1,0 +1,3 @@
+pub mod InTheWay
+pub mod Holds
+pub mod Outcomes

@@ -1,0 +1,6 @@
+// What a bay claims an item for.
+#[derive(Clone, Copy, PartialEq, Eq, Debug)]
+pub enum Access {
+    Read,
+    Write,
+}
