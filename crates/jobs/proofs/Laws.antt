@@ -1,16 +1,16 @@
 -- A register that stands after a history keeps the laws.
 use mathlib.Core.Path.{_≡_, refl, sym, ap, subst, _∙_}
-use mathlib.Core.List.{[], _∷_}
+use mathlib.Core.List.{List, [], _∷_}
 use Rattle.jobs.specs.Setting.{Setting, Lawful}
 use Rattle.jobs.specs.State.{State, fresh-state}
 use Rattle.jobs.specs.Calls.{Call, Reply}
 use Rattle.jobs.specs.Step.{step}
-use Rattle.jobs.specs.History.{entry, History, after, Faithful, Stands}
+use Rattle.jobs.specs.History.{entry, History, after, Faithful, Stands, run}
 use Rattle.jobs.specs.Transactions.{time}
 use Rattle.jobs.specs.OneCopy.{One-copy}
 use Rattle.jobs.specs.Deadlines.{Timely}
 use Rattle.jobs.specs.Filled.{Filled}
-use Rattle.jobs.specs.Laws.{Laws, Keeps-laws, Fresh-stands, Steps-keep-laws, Laws-hold}
+use Rattle.jobs.specs.Laws.{Laws, Keeps-laws, Fresh-stands, Steps-keep-laws, Laws-hold, Runs-keep-laws}
 use Rattle.jobs.proofs.Separation.{separated}
 use Rattle.jobs.proofs.Bays.{at-tick}
 use Rattle.jobs.proofs.Deadlines.{timely-step}
@@ -37,6 +37,13 @@ module _ {V : Type 0} (S : Setting V) where
     replies = (e ∙ ap (λ (z : State V). step S z x .reply) (d .state), d .replies);
     state = f ∙ ap (λ (z : State V). step S z x .next) (d .state);
   }
+
+  run-faithful : (calls : List (Call V)) → Faithful S (run S calls)
+  run-faithful [] = tt
+  run-faithful (x ∷ xs) = (refl, run-faithful xs)
+
+  pub stands-run : (calls : List (Call V)) → Stands S (run S calls) (after S (run S calls))
+  stands-run calls = record { replies = run-faithful calls; state = refl }
 
   module _ (L : Lawful S) where
     pub invariant : (h : History V) → Faithful S h → Invariant S (after S h) h
@@ -79,3 +86,6 @@ steps-keep-laws V S L s x = keeps-laws S L s x _ _ refl refl
 
 pub laws-hold : (V : Type 0) → Laws-hold V
 laws-hold V S L h s d = laws-of S L h s d
+
+pub runs-keep-laws : (V : Type 0) → Runs-keep-laws V
+runs-keep-laws V S L calls = laws-hold V S L (run S calls) (after S (run S calls)) (stands-run S calls)

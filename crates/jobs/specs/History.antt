@@ -31,3 +31,8 @@ module _ {V : Type 0} (S : Setting V) where
   pub record Stands (h : History V) (s : State V) : Type 0 where
     pub replies : Faithful h
     pub state : s ≡ after h
+
+  -- The run of calls, the latest first: the history that they make, with the reply that each gets.
+  abbrev pub run : List (Call V) → History V
+  run [] = []
+  run (x ∷ xs) = entry x (step S (after (run xs)) x .reply) ∷ run xs

@@ -1,10 +1,10 @@
 -- The laws of a register that stands after a history, in one record.
-use mathlib.Core.List.{[], _∷_}
+use mathlib.Core.List.{List, [], _∷_}
 use Rattle.jobs.specs.Setting.{Setting, Lawful}
 use Rattle.jobs.specs.State.{State, fresh-state}
 use Rattle.jobs.specs.Calls.{Call, Reply}
 use Rattle.jobs.specs.Step.{step}
-use Rattle.jobs.specs.History.{entry, History, Stands}
+use Rattle.jobs.specs.History.{entry, History, after, Stands, run}
 use Rattle.jobs.specs.Separation.{Separated}
 use Rattle.jobs.specs.OneCopy.{One-copy}
 use Rattle.jobs.specs.Deadlines.{Timely}
@@ -37,3 +37,7 @@ Steps-keep-laws V =
 -- The laws hold of every history of every register that is set up lawfully.
 abbrev pub Laws-hold : Type 0 → Type 0
 Laws-hold V = (S : Setting V) → Lawful S → (h : History V) (s : State V) → Stands S h s → Laws S h s
+
+-- And of every run: whatever calls come, in whatever order, accepted or refused.
+abbrev pub Runs-keep-laws : Type 0 → Type 0
+Runs-keep-laws V = (S : Setting V) → Lawful S → (calls : List (Call V)) → Laws S (run S calls) (after S (run S calls))

@@ -1,13 +1,14 @@
 // The laws of the register, as promises of functions that do nothing: whoever calls one has what it ensures.
-ghost use Rattle.jobs.specs.Laws.{Fresh-stands, Laws-hold, Steps-keep-laws};
+ghost use Rattle.jobs.specs.Laws.{Fresh-stands, Laws-hold, Runs-keep-laws, Steps-keep-laws};
 ghost use Rattle.jobs.specs.Shortcuts.{Shortcuts-fail};
 ghost use Rattle.jobs.specs.Worked.{Worked};
 
-/// Every history of every register over values of type V that is set up lawfully keeps separation, one copy and deadlines.
+/// Every history, so every run of calls, of every register over values of type V that is set up lawfully keeps separation, one copy and deadlines.
 pub fn laws_hold<V>()
     ensures fresh { λ _. ⌜ Fresh-stands V ⌝ }
     ensures steps { λ _. ⌜ Steps-keep-laws V ⌝ }
     ensures laws { λ _. ⌜ Laws-hold V ⌝ }
+    ensures runs { λ _. ⌜ Runs-keep-laws V ⌝ }
 {}
 
 /// The definitions come out as they should on small cases, and the laws' premises can be met.
