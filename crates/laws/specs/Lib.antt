@@ -1,0 +1,15 @@
+pub mod Setting
+pub mod State
+pub mod Calls
+pub mod Clock
+pub mod Actions
+pub mod Step
+pub mod History
+pub mod Transactions
+pub mod Separation
+pub mod OneCopy
+pub mod Deadlines
+pub mod Filled
+pub mod Laws
+pub mod Worked
+pub mod Shortcuts
