@@ -1,4 +1,6 @@
-// Kinds of value, and the version store: cells that keep the last versions of an item.
+//! Kinds of value, and the version store: cells that keep the last versions of an item.
+#![tactic(auto)]
+
 pub mod cell;
 pub mod cell_versions;
 pub mod faults;

@@ -1,4 +1,6 @@
-// A register over a class order and a local rule of one's own: two rivals order probes, and neither learns of the other.
+//! A register over a class order and a local rule of one's own: two rivals order probes, and neither learns of the other.
+#![tactic(auto)]
+
 mod diamond_order;
 mod diamond_session;
 mod session;

@@ -1,4 +1,6 @@
-// Each number with which the register refuses, met once, and each border from both sides: a table that is compared with its stored form.
+//! Each number with which the register refuses, met once, and each border from both sides: a table that is compared with its stored form.
+#![tactic(auto)]
+
 mod calls;
 mod request;
 mod scenes;

@@ -1,4 +1,6 @@
-// The register: its calls over memory that the caller lends, proved against the definition and its laws.
+//! The register: its calls over memory that the caller lends, proved against the definition and its laws.
+#![tactic(auto)]
+
 mod bay_access;
 mod begin;
 mod calls;

@@ -1,4 +1,6 @@
-// Lines: the frames that stations send, the session that answers them, and the register that it keeps.
+//! Lines: the frames that stations send, the session that answers them, and the register that it keeps.
+#![tactic(auto)]
+
 mod answering;
 pub mod fault_numbers;
 mod frame_length;

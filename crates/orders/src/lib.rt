@@ -1,4 +1,6 @@
-// Orders of classes: what an order answers and owes, and two ways to make one.
+//! Orders of classes: what an order answers and owes, and two ways to make one.
+#![tactic(auto)]
+
 pub mod chosen_order;
 pub mod class_order;
 pub mod drawn_order;

@@ -1,4 +1,6 @@
-// The register for stations: it answers the lines of standard input.
+//! The register for stations: it answers the lines of standard input.
+#![tactic(auto)]
+
 use std::io;
 
 fn main(rt: HostRuntime) -> io::Result<()> {

@@ -1,4 +1,6 @@
-// The register for people: the lines of standard input and their replies, told in words.
+//! The register for people: the lines of standard input and their replies, told in words.
+#![tactic(auto)]
+
 mod job_frames;
 mod kinds_chosen;
 mod reasons;

@@ -1,4 +1,6 @@
-// The register at standard input and output: lines come in, replies go out.
+//! The register at standard input and output: lines come in, replies go out.
+#![tactic(auto)]
+
 ghost use Rattle.std.specs.Prelude.{◌≤◌, length, IfOk};
 
 use cells::cell::Cell;

@@ -1,4 +1,6 @@
-// The parts of a register that need no lent memory: bays, clock, item counts, and the faults of calls and set-up.
+//! The parts of a register that need no lent memory: bays, clock, item counts, and the faults of calls and set-up.
+#![tactic(auto)]
+
 pub mod bay;
 mod class_floor;
 pub mod class_setup;

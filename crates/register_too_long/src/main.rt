@@ -1,4 +1,6 @@
-// The register on an input that is one byte too long.
+//! The register on an input that is one byte too long.
+#![tactic(auto)]
+
 use std::io;
 
 fn main(rt: HostRuntime) -> io::Result<()> {

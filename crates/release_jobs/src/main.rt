@@ -1,4 +1,6 @@
-// A release is withdrawn while two stations read it: played through the calls of the register, and told in words.
+//! A release is withdrawn while two stations read it: played through the calls of the register, and told in words.
+#![tactic(auto)]
+
 mod told;
 
 use cells::cell::Cell;

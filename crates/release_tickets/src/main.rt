@@ -1,4 +1,6 @@
-// Jobs by their tickets, told in words: a withdrawn release at words under locks, then slips of a workshop under the check rule.
+//! Jobs by their tickets, told in words: a withdrawn release at words under locks, then slips of a workshop under the check rule.
+#![tactic(auto)]
+
 mod desk;
 mod holder;
 mod item;

@@ -1,4 +1,6 @@
-// Local rules: how a class schedules its own jobs (transactions). Everything above is proved from what a rule means, for every rule that keeps the laws.
+//! Local rules: how a class schedules its own jobs (transactions). Everything above is proved from what a rule means, for every rule that keeps the laws.
+#![tactic(auto)]
+
 pub mod access;
 pub mod answer;
 pub mod bay_claims;

@@ -1,2 +1,4 @@
-// Sets of numbers below 64, one bit a number.
+//! Sets of numbers below 64, one bit a number.
+#![tactic(auto)]
+
 pub mod small_set;

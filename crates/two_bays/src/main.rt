@@ -1,4 +1,6 @@
-// Two bays meet at one item: under locks the second is refused at once, under the check rule the reader fails when it settles.
+//! Two bays meet at one item: under locks the second is refused at once, under the check rule the reader fails when it settles.
+#![tactic(auto)]
+
 use rules::check::Check;
 use rules::local_rule::LocalRule;
 use rules::locks::Locks;

@@ -1,4 +1,6 @@
-// Four version periods of a firmware and its table layout, with a release withdrawn in the last, printed step by step.
+//! Four version periods of a firmware and its table layout, with a release withdrawn in the last, printed step by step.
+#![tactic(auto)]
+
 ghost use Rattle.std.specs.Prelude.{◌≡◌, map};
 ghost use Rattle.cells.specs.Cells.{versions};
 ghost use Rattle.withdrawn_release.specs.Releases.{published};
