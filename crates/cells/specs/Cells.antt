@@ -6,7 +6,7 @@ use Rattle.cells.specs.declared.version.Version.{Version}
 use Rattle.cells.specs.declared.cell.Cell.{Cell}
 use Rattle.cells.specs.declared.faults.ReadFault.{ReadFault}
 use Rattle.cells.specs.declared.faults.StoreFault.{StoreFault}
-use Rattle.cells.specs.declared.faults.ReadFault.TheVariants.{NoCell as no-cell-to-read}
+use Rattle.cells.specs.declared.faults.ReadFault.TheVariants.{NoCell as no_cell_to_read}
 use Rattle.cells.specs.declared.faults.StoreFault.TheVariants.{NoCell, OldNumber}
 
 module _ {V : Type 0} where

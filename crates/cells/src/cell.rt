@@ -5,10 +5,17 @@ ghost use Rattle.cells.specs.Listed.{listed};
 
 use crate::older::Older;
 use crate::version::Version;
+use std::alloc::AllocError;
 
-#[derive(Clone, Copy)]
+#[derive(Copy)]
 pub struct Cell<V> {
     pub newest: Version<V>,
     pub older: Older<V>,
     ghost ordered: { falling (newest ∷ listed older) ≡ true },
+}
+
+impl<V: Copy> Clone for Cell<V> {
+    fn clone(&self) -> Result<Cell<V>, AllocError> {
+        Ok(*self)
+    }
 }

@@ -1,6 +1,6 @@
 // Calls on one cell, by value.
 ghost use Rattle.std.specs.Prelude.{◌≡◌, ◌≤◌};
-ghost use Rattle.cells.specs.Versions.{stored, read_at, fresh as fresh-item};
+ghost use Rattle.cells.specs.Versions.{stored, read_at, fresh as fresh_item};
 ghost use Rattle.cells.specs.Cells.{versions};
 
 use crate::cell::Cell;
@@ -11,7 +11,7 @@ use crate::version::Version;
 impl<V: Value> Cell<V> {
     // A fresh cell of a kind of value: its starting value under number 0.
     pub fn starting() -> Cell<V>
-        ensures { versions result ≡ fresh-item V.Value.starting }
+        ensures { versions result ≡ fresh_item V.Value.starting }
     {
         Cell::fresh(V::start())
     }
@@ -20,7 +20,7 @@ impl<V: Value> Cell<V> {
 impl<V: Copy> Cell<V> {
     // A cell whose only version is `value` under number 0.
     pub fn fresh(value: V) -> Cell<V>
-        ensures { versions result ≡ fresh-item value }
+        ensures { versions result ≡ fresh_item value }
     {
         Cell {
             newest: Version { number: 0, value },

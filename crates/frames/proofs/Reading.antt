@@ -11,6 +11,11 @@ abbrev pub before : List ℕ → Option (List ℕ) → Option (List ℕ)
 before read None = None
 before read (Some rest) = Some (read ++ rest)
 
+-- Nothing read yet.
+pub before_nothing : (o : Option (List ℕ)) → before [] o ≡ o
+before_nothing None = refl
+before_nothing (Some rest) = refl
+
 before_more : (read : List ℕ) (b : ℕ) (o : Option (List ℕ)) → before read (with_byte (Some b) o) ≡ before (read ++ b ∷ []) o
 before_more read b None = refl
 before_more read b (Some rest) = ap Some (sym (append_assoc read (b ∷ []) rest))

@@ -18,7 +18,7 @@ use Rattle.jobs.specs.Faults.{fault_reply}
 use Rattle.jobs.specs.Represents.{setting, pending_of, bay_of, bay_values, cell_of, class_of}
 use Rattle.jobs.specs.Lent.{none, with_rules, with_cells, RuleBecomes, ChangedOnly}
 use Rattle.jobs.specs.Parts.{with_bay_in, class_in, with_class_in}
-use Rattle.jobs.specs.OwnPlaces as own-places
+use Rattle.jobs.specs.OwnPlaces as own_places
 use Rattle.jobs.specs.Storing.{all_stored, CellsBecome}
 use Rattle.jobs.specs.Committing.{committed_in, validated, validated_claims}
 use Rattle.register_parts.specs.declared.bay.Bay.{Bay}

@@ -6,8 +6,8 @@ ghost use Rattle.lines.specs.Plans.{draft_of};
 ghost use Rattle.lines.specs.Replies.{held_bytes, told};
 ghost use Rattle.lines.specs.Sessions.{phase_of};
 ghost use Rattle.lines.specs.Supplies.{rooms_of};
-ghost use Rattle.lines.specs.declared.stage.Stage.TheVariants.{Opening as opening-stage, Planning as planning-stage, Serving as serving-stage};
-ghost use Rattle.lines.specs.declared.supplied.Supplied.{Supplied as supplied-memory};
+ghost use Rattle.lines.specs.declared.stage.Stage.TheVariants.{Opening as opening_stage, Planning as planning_stage, Serving as serving_stage};
+ghost use Rattle.lines.specs.declared.supplied.Supplied.{Supplied as supplied_memory};
 
 use crate::job_frames::serve_frame;
 use crate::kinds::ValueKind;
@@ -27,9 +27,9 @@ const NO_VALUE: usize = 0;
 impl Session {
     // At first only the choice of kinds is awaited.
     fn choose(&mut self, operation: Operation, frame: &[u8]) -> Result<ReplyBytes, LineFault>
-        requires { self.old.stage ≡ opening-stage }
+        requires { self.old.stage ≡ opening_stage }
         ensures reply { told result ≡ (in_opening operation frame.now).reply }
-        ensures leaves { (m : supplied-memory) → Leaves (in_opening operation frame.now) self.old m self.new m }
+        ensures leaves { (m : supplied_memory) → Leaves (in_opening operation frame.now) self.old m self.new m }
     {
         let Operation::Choose = operation else {
             return Err(LineFault::OutOfOrder);
@@ -47,7 +47,7 @@ impl Session {
         operation: Operation,
         frame: &[u8],
     ) -> Result<ReplyBytes, LineFault>
-        requires { self.old.stage ≡ planning-stage }
+        requires { self.old.stage ≡ planning_stage }
         ensures reply { told result ≡ (in_phase (rooms_of supplied.old) (phase_of self.old supplied.old) operation frame.now).reply }
         ensures leaves { Leaves (in_phase (rooms_of supplied.old) (phase_of self.old supplied.old) operation frame.now) self.old supplied.old self.new supplied.new }
     {
@@ -59,9 +59,9 @@ impl Session {
     }
 
     fn add_class(&mut self, frame: &[u8]) -> Result<ReplyBytes, LineFault>
-        requires { self.old.stage ≡ planning-stage }
+        requires { self.old.stage ≡ planning_stage }
         ensures reply { told result ≡ (class_answer (draft_of self.old.plan) frame.now).reply }
-        ensures leaves { (m : supplied-memory) → Leaves (class_answer (draft_of self.old.plan) frame.now) self.old m self.new m }
+        ensures leaves { (m : supplied_memory) → Leaves (class_answer (draft_of self.old.plan) frame.now) self.old m self.new m }
     {
         if self.plan.is_complete() {
             return Err(LineFault::OutOfOrder);
@@ -75,7 +75,7 @@ impl Session {
 
     // Chooses the rule.
     fn start(&mut self, supplied: &mut Supplied<'_>, frame: &[u8]) -> Result<ReplyBytes, LineFault>
-        requires { self.old.stage ≡ planning-stage }
+        requires { self.old.stage ≡ planning_stage }
         ensures reply { told result ≡ (rule_answer (rooms_of supplied.old) (draft_of self.old.plan) frame.now).reply }
         ensures leaves { Leaves (rule_answer (rooms_of supplied.old) (draft_of self.old.plan) frame.now) self.old supplied.old self.new supplied.new }
     {
@@ -88,7 +88,7 @@ impl Session {
 
     // Opens the register over the memory for its kind of value.
     fn open(&mut self, supplied: &mut Supplied<'_>, variant: u8) -> Result<ReplyBytes, LineFault>
-        requires { (self.old.stage ≡ planning-stage) × (self.old.plan.count ≡ self.old.plan.wanted) }
+        requires { (self.old.stage ≡ planning_stage) × (self.old.plan.count ≡ self.old.plan.wanted) }
         ensures reply { told result ≡ (start_answer (rooms_of supplied.old) (draft_of self.old.plan) variant).reply }
         ensures leaves { Leaves (start_answer (rooms_of supplied.old) (draft_of self.old.plan) variant) self.old supplied.old self.new supplied.new }
     {
@@ -108,7 +108,7 @@ impl Session {
         operation: Operation,
         frame: &[u8],
     ) -> Result<ReplyBytes, LineFault>
-        requires { self.old.stage ≡ serving-stage }
+        requires { self.old.stage ≡ serving_stage }
         ensures reply { told result ≡ (in_phase (rooms_of supplied.old) (phase_of self.old supplied.old) operation frame.now).reply }
         ensures leaves { Leaves (in_phase (rooms_of supplied.old) (phase_of self.old supplied.old) operation frame.now) self.old supplied.old self.new supplied.new }
     {

@@ -1,7 +1,7 @@
 // The numbers of a line's faults, the part that raises each, and how faults pass up to the line.
 ghost use Rattle.std.specs.Prelude.{◌≡◌};
 ghost use Rattle.lines.specs.LineFaults.{fault_number, named_bay, raised_by, fault_of_order, fault_of_setup};
-ghost use Rattle.lines.specs.declared.line_fault.LineFault.TheVariants.{Refused as refused-by-register};
+ghost use Rattle.lines.specs.declared.line_fault.LineFault.TheVariants.{Refused as refused_by_register};
 
 use crate::line_fault::{LineFault, Part};
 use jobs::job_fault::JobFault;
@@ -9,7 +9,7 @@ use jobs::setup_fault::SetUpFault;
 use orders::order_fault::OrderFault;
 
 impl From<JobFault> for LineFault {
-    ghost from_gives = { λ e r. r ≡ refused-by-register e };
+    ghost from_gives = { λ e r. r ≡ refused_by_register e };
 
     fn from(e: JobFault) -> LineFault {
         LineFault::Refused(e)

@@ -1,8 +1,8 @@
 // A session before its first line.
 ghost use Rattle.std.specs.Prelude.{◌≡◌};
-ghost use Rattle.lines.specs.Phases.{opening as awaiting-choice};
+ghost use Rattle.lines.specs.Phases.{opening as awaiting_choice};
 ghost use Rattle.lines.specs.Sessions.{phase_of};
-ghost use Rattle.lines.specs.declared.supplied.Supplied.{Supplied as supplied-memory};
+ghost use Rattle.lines.specs.declared.supplied.Supplied.{Supplied as supplied_memory};
 
 use crate::kinds::{OrderKind, ValueKind};
 use crate::plan::Plan;
@@ -16,7 +16,7 @@ use orders::drawn_order::DrawnOrder;
 impl Session {
     // Nothing is set up yet. The register that the session holds until then has one class without items.
     pub fn new() -> Session
-        ensures state { (m : supplied-memory) → phase_of result m ≡ awaiting-choice }
+        ensures state { (m : supplied_memory) → phase_of result m ≡ awaiting_choice }
     {
         let none = ClassSetup { items: 0 };
         let order = ChosenOrder::Drawn(DrawnOrder::new(0).unwrap());

@@ -1,6 +1,6 @@
 // Calls on a clock: its declared numbers, and one more tick.
 ghost use Rattle.std.specs.Prelude.{◌≡◌, ◌<◌, slice_set};
-ghost use Rattle.laws.specs.Clock.{declared as declared-number};
+ghost use Rattle.laws.specs.Clock.{declared as declared_number};
 ghost use Rattle.register_parts.specs.ClockCalls.{Shows, next_declaration, advance_reply, advanced_ticks, Declares};
 
 use crate::clock::Clock;
@@ -16,7 +16,7 @@ const LAST_TICK: u32 = 1_000_000;
 impl Clock {
     // The declared number of a grade; 0 where there is no such grade.
     pub fn declared(&self, grade: u8) -> u32
-        ensures reply { result ≡ declared-number self.now.top grade self.now.ticks }
+        ensures reply { result ≡ declared_number self.now.top grade self.now.ticks }
     {
         if grade > MAX_GRADE {
             return 0;

@@ -1,8 +1,8 @@
 // What one bay claims: the items that it reads, the items that it writes, and whether it is stale.
 ghost use Rattle.std.specs.Prelude.{◌≡◌};
 ghost use Rattle.sets.specs.Members.{members};
-ghost use Rattle.rules.specs.Policies.{bars as shuts-out};
-ghost use Rattle.rules.specs.Tables.{one_bay, nothing_claimed, one_claim_more, overwritten as after-overwrite};
+ghost use Rattle.rules.specs.Policies.{bars as shuts_out};
+ghost use Rattle.rules.specs.Tables.{one_bay, nothing_claimed, one_claim_more, overwritten as after_overwrite};
 
 use crate::access::Access;
 use sets::small_set::SmallSet;
@@ -27,7 +27,7 @@ impl BayClaims {
 
     // Whether these claims shut others out of an item.
     pub fn bars(self, access: Access, item: u8) -> bool
-        ensures { result ≡ shuts-out access (members self.reads item) (members self.writes item) }
+        ensures { result ≡ shuts_out access (members self.reads item) (members self.writes item) }
     {
         match access {
             Access::Read => self.writes.contains(item),
@@ -52,7 +52,7 @@ impl BayClaims {
 
     // The bay once the items in `written` are overwritten: stale if it read one of them.
     pub fn overwritten(self, written: SmallSet) -> BayClaims
-        ensures { result ≡ after-overwrite written self }
+        ensures { result ≡ after_overwrite written self }
     {
         BayClaims {
             stale: self.stale || written.overlaps(self.reads),

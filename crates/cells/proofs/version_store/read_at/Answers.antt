@@ -13,6 +13,6 @@ returns g c =
     let within = c.if-index-cells.false in
     let is = c.index-cells-index.is in
     record {
-      reply = rw (inside cells index within, item_here cells index _ within is, c.read-at.ensures);
-      laws = subst (Serves c.args.number _) (sym c.read-at.ensures) (item_serves cells index _ within is c.args.number);
+      reply = rw (inside cells index within, item_here cells index _ within is, c.read_at.ensures);
+      laws = subst (Serves c.args.number _) (sym c.read_at.ensures) (item_serves cells index _ within is c.args.number);
     }

@@ -2,21 +2,21 @@ use Rattle.std.proofs.lemmas.Result.{err_from_is_err_and}
 use Rattle.diamond_register.proofs.Opening.{not_made, not_filled, filled, unused}
 use Rattle.diamond_register.proofs.session.set_up.Goals as goal
 
-pub returns-in-err-fill : goal.returns-in-err-fill
-returns-in-err-fill g c =
-    let p = err_from_is_err_and c.from-residual-in-err-fill.result c.from-residual-in-err-fill.ensures.1 in
-    let made = c.in-ok-register.ensures in
-    let refused = c.in-err-fill.ensures in
+pub returns-in_err-fill : goal.returns-in_err-fill
+returns-in_err-fill g c =
+    let p = err_from_is_err_and c.from_residual-in_err-fill.result c.from_residual-in_err-fill.ensures.1 in
+    let made = c.in_ok-register.ensures in
+    let refused = c.in_err-fill.ensures in
     rw (p.1, p.2) (record {
-      reply = not_filled g.O.ClassOrder g.row.V-Value g.R.LocalRule _ _ _ _ c.in-ok-register.register _ _ made.reply refused.reply refused.memory;
+      reply = not_filled g.O.ClassOrder g.row.V-Value g.R.LocalRule _ _ _ _ c.in_ok-register.register _ _ made.reply refused.reply refused.memory;
       laws = tt;
     })
 
-pub returns-in-err-register : goal.returns-in-err-register
-returns-in-err-register g c =
-    let p = err_from_is_err_and c.from-residual.result c.from-residual.ensures.1 in
+pub returns-in_err-register : goal.returns-in_err-register
+returns-in_err-register g c =
+    let p = err_from_is_err_and c.from_residual.result c.from_residual.ensures.1 in
     rw (p.1, p.2) (record {
-      reply = not_made g.O.ClassOrder g.row.V-Value g.R.LocalRule _ _ _ _ _ c.in-err-register.ensures.reply;
+      reply = not_made g.O.ClassOrder g.row.V-Value g.R.LocalRule _ _ _ _ _ c.in_err-register.ensures.reply;
       laws = tt;
     })
 
@@ -25,9 +25,9 @@ returns g c =
     let o = g.O.ClassOrder in
     let v = g.row.V-Value in
     let r = g.R.LocalRule in
-    let x = c.in-ok-register.register in
-    let made = c.in-ok-register.ensures in
-    let done = c.in-ok-fill.ensures in
+    let x = c.in_ok-register.register in
+    let made = c.in_ok-register.ensures in
+    let done = c.in_ok-fill.ensures in
     record {
       reply = filled o v r _ _ _ _ x _ made.reply done.reply done.memory;
       laws = record { topped = made.laws; stands = done.laws (unused o v r _ _ _ x made.reply) };

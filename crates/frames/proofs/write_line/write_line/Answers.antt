@@ -8,7 +8,7 @@ use Rattle.frames.proofs.write_line.write_line.Goals as goal
 
 pub loop-i-preserved : goal.loop-i-preserved
 loop-i-preserved c =
-    put_pair c.loop-i.out c.args.out.now c.args.bytes.now c.loop-i.i c.high-digit.result c.low-digit.result c.loop-i-test.true (omega arith) c.high-digit.ensures.reply c.low-digit.ensures.reply c.loop-i.invariant
+    put_pair c.loop-i.out c.args.out.now c.args.bytes.now c.loop-i.i c.high_digit.result c.low_digit.result c.loop-i-test.true (omega arith) c.high_digit.ensures.reply c.low_digit.ensures.reply c.loop-i.invariant
 
 pub returns : goal.returns
 returns c =
@@ -16,7 +16,7 @@ returns c =
     let memory = c.args.out.now in
     let room = lt-ltb (2 * length bytes) (length memory) c.if-end-out.false in
     let out = put_newline c.loop-i.out memory bytes c.loop-i.i c.loop-i-test.false (omega arith) c.if-end-out.false c.loop-i.invariant in
-    let bounded = All-from_get_or (λ b. b < 256) bytes 0 (λ k h. omega (arith, c.type-inv.bytes k)) in
+    let bounded = All-from_get_or (λ b. b < 256) bytes 0 (λ k h. omega (arith, c.type_inv.bytes k)) in
     record {
       reply = sym (cond-true (ltb (2 * length bytes) (length memory)) _ _ room);
       memory = out ∙ sym (cond-true (ltb (2 * length bytes) (length memory)) _ _ room);

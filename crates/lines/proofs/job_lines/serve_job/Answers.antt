@@ -13,15 +13,15 @@ returns g c =
     let r = g.R.LocalRule in
     let x = c.args.register.now in
     let m = c.args.memory.now in
-    let x' = c.call-register.new.register in
-    let m' = c.call-register.new.memory in
+    let x' = c.call_register.new.register in
+    let m' = c.call_register.new.memory in
     let frame = c.args.frame.now in
-    let done = c.call-register.ensures in
-    let bytes = All-from_get_or (λ b. b < 256) frame 0 (λ k h. omega (arith, c.type-inv.frame k)) in
+    let done = c.call_register.ensures in
+    let bytes = All-from_get_or (λ b. b < 256) frame 0 (λ k h. omega (arith, c.type_inv.frame k)) in
     record {
       reply = done.reply;
       state = done.state;
       memory = done.memory;
       laws = reads_back v g.met.V.Value.encodes o r g.met.O.ClassOrder.reflexive x x' m m' (same_room (needed (setting o v r x)) m m' done.memory)
-          c.args.job frame (told c.call-register.result) bytes done.reply done.state;
+          c.args.job frame (told c.call_register.result) bytes done.reply done.state;
     }

@@ -5,15 +5,15 @@ use Rattle.jobs.proofs.CallLaws.{KeptLaws}
 use Rattle.lines.proofs.OpenedRegisters.{fill_reply_is, opened}
 use Rattle.lines.proofs.opening.open_register.Goals as goal
 
-pub returns-in-err-fill : goal.returns-in-err-fill
-returns-in-err-fill g c =
-    let e = err_from_is_err_and c.from-residual-in-err-fill.result c.from-residual-in-err-fill.ensures.1 in
-    let done = c.in-err-fill.ensures in
+pub returns-in_err-fill : goal.returns-in_err-fill
+returns-in_err-fill g c =
+    let e = err_from_is_err_and c.from_residual-in_err-fill.result c.from_residual-in_err-fill.ensures.1 in
+    let done = c.in_err-fill.ensures in
     rw (e.1, e.2) (record {
       reply =
           done.reply
           ∙ fill_reply_is g.O.ClassOrder g.row.V-Value g.R.LocalRule c.args.order (said c.args.records.now) c.args.variant
-          c.in-ok-register.register c.requires c.in-ok-register.ensures.reply c.args.memory.now;
+          c.in_ok-register.register c.requires c.in_ok-register.ensures.reply c.args.memory.now;
       state = done.memory;
     })
 
@@ -28,14 +28,14 @@ returns g c =
       readers = g.met.R.LocalRule.readers;
       writers = g.met.R.LocalRule.writers;
     } in
-    let made = c.in-ok-register.ensures in
-    let done = c.in-ok-fill.ensures in
+    let made = c.in_ok-register.ensures in
+    let done = c.in_ok-fill.ensures in
     record {
       reply =
           done.reply
           ∙ fill_reply_is g.O.ClassOrder g.row.V-Value g.R.LocalRule c.args.order (said c.args.records.now) c.args.variant
-          c.in-ok-register.register c.requires made.reply c.args.memory.now;
+          c.in_ok-register.register c.requires made.reply c.args.memory.now;
       state =
           opened g.O.ClassOrder g.row.V-Value g.R.LocalRule c.args.order (said c.args.records.now) c.args.variant
-          c.in-ok-register.register c.requires made.reply c.args.memory.now c.fill.new.memory kept made.laws done.memory done.laws;
+          c.in_ok-register.register c.requires made.reply c.args.memory.now c.fill.new.memory kept made.laws done.memory done.laws;
     }

@@ -9,5 +9,5 @@ returns c =
     let e = forget_in_range (claims_of c.args.self.now.holds) c.args.bay (omega arith) in
     record {
       reply = sym (ap (λ o. o.reply) e);
-      state = ap claims_of c.release-all.ensures ∙ after_release c.args.self.now.holds c.args.bay ∙ sym (ap (λ o. o.claims) e);
+      state = ap claims_of c.release_all.ensures ∙ after_release c.args.self.now.holds c.args.bay ∙ sym (ap (λ o. o.claims) e);
     }

@@ -6,6 +6,6 @@ use Rattle.jobs.proofs.memory.Memory.claim_read.Goals as goal
 
 pub returns : goal.returns
 returns g c =
-    let z = rule_called g.R.LocalRule c.args.self.now c.args.class c.index-self-class.result c.claim-read.new.self
-    (λ (k : Claims). claiming Read g.R.LocalRule.reading k c.args.bay c.args.item) c.claim-read.result c.requires c.claim-read.ensures.reply c.claim-read.ensures.state in
+    let z = rule_called g.R.LocalRule c.args.self.now c.args.class c.index-self-class.result c.claim_read.new.self
+    (λ (k : Claims). claiming Read g.R.LocalRule.reading k c.args.bay c.args.item) c.claim_read.result c.requires c.claim_read.ensures.reply c.claim_read.ensures.state in
     record { reply = z.0; memory = z.1 }

@@ -6,6 +6,6 @@ use Rattle.jobs.proofs.memory.Memory.claim_write.Goals as goal
 
 pub returns : goal.returns
 returns g c =
-    let z = rule_called g.R.LocalRule c.args.self.now c.args.class c.index-self-class.result c.claim-write.new.self
-    (λ (k : Claims). claiming Write g.R.LocalRule.writing k c.args.bay c.args.item) c.claim-write.result c.requires c.claim-write.ensures.reply c.claim-write.ensures.state in
+    let z = rule_called g.R.LocalRule c.args.self.now c.args.class c.index-self-class.result c.claim_write.new.self
+    (λ (k : Claims). claiming Write g.R.LocalRule.writing k c.args.bay c.args.item) c.claim_write.result c.requires c.claim_write.ensures.reply c.claim_write.ensures.state in
     record { reply = z.0; memory = z.1 }

@@ -11,14 +11,14 @@ returns-then-place-len g c =
     let items = pending_items c.args.pending in
     let values = bay_values pending c.args.class c.args.bay in
     let first = pending_place c.args.class c.args.bay in
-    let v = c.pending-at.result in
+    let v = c.pending_at.result in
     let eight = eight_values pending c.args.class c.args.bay c.requires.0 c.requires.1 in
     let within : place c.args.item items < length items = omega (arith, c.if-place-len.true, c.place-place.ensures.reply, c.len.ensures.reply) in
     let value : get_or values (place c.args.item items) v ≡ v =
     value_in pending c.args.class c.args.bay c.requires.0 (place c.args.item items) v (omega (arith, c.len.ensures.few, c.len.ensures.reply))
     ∙ ap (λ k. get_or pending (first + k) v) (sym c.place-place.ensures.reply)
-    ∙ ap (λ k. get_or pending k v) (sym c.pending-index.ensures)
-    ∙ sym c.pending-at.ensures.reply in
+    ∙ ap (λ k. get_or pending k v) (sym c.pending_index.ensures)
+    ∙ sym c.pending_at.ensures.reply in
     record { reply = sym (found_at c.args.item items values v within (omega (arith, c.len.ensures.few, c.len.ensures.reply)) ∙ ap Some value) }
 
 pub returns-else-place-len : goal.returns-else-place-len

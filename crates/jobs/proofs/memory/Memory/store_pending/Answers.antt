@@ -25,10 +25,10 @@ loop-k-preserved-then-item-items g c =
     let values = bay_values m.pending.now c.args.class c.args.bay in
     let few : length (pending_items p) ≤ length values = omega (arith, eight_values m.pending.now c.args.class c.args.bay c.requires.1.1 c.requires.1.0) in
     let same : c.loop-k.self.pending.now ≡ m.pending.now = ap (λ (t : Memory g.row.V.Denot g.row.R.Denot). t.pending.now) c.loop-k.invariant.0 in
-    let value = c.pending-at-value.result in
+    let value = c.pending_at-value.result in
     let is : value ≡ get_or values (k - 1) value =
-    c.pending-at-value.ensures.reply ∙ ap (λ (ps : List g.row.V.Denot). get_or ps c.pending-index.result value) same
-    ∙ rw c.pending-index.ensures (sym (value_in m.pending.now c.args.class c.args.bay c.requires.1.1 (k - 1) value (omega arith))) in (
+    c.pending_at-value.ensures.reply ∙ ap (λ (ps : List g.row.V.Denot). get_or ps c.pending_index.result value) same
+    ∙ rw c.pending_index.ensures (sym (value_in m.pending.now c.args.class c.args.bay c.requires.1.1 (k - 1) value (omega arith))) in (
       ap (λ (t : Memory g.row.V.Denot g.row.R.Denot). with_cells t c.store.new.cells) c.loop-k.invariant.0,
       c.store.ensures.memory ∙ stores_one c.args.items c.args.first c.args.number p.count p.items values (map versions m.cells.now) (map versions c.loop-k.self.cells.now) k c.loop-k-test.true (omega arith) few c.loop-k.invariant.1 value is c.if-item-items.true,
     )

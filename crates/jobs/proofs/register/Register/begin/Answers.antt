@@ -5,7 +5,7 @@ use Rattle.jobs.proofs.register.Register.begin.Goals as goal
 
 pub returns : goal.returns
 returns g c =
-    let done = c.begin-job.ensures in
+    let done = c.begin_job.ensures in
     let kept : KeptLaws g.O.ClassOrder g.R.LocalRule = record {
       few = g.met.O.ClassOrder.few;
       reflexive = g.met.O.ClassOrder.reflexive;
@@ -19,5 +19,5 @@ returns g c =
       reply = done.reply;
       state = done.state;
       laws = lawfully g.O.ClassOrder g.row.V-Value g.R.LocalRule kept c.args.self.now c.args.memory.now (to_begin c.args.class c.args.bay c.args.kind)
-          (done_reply c.begin-job.result) c.begin-job.new.self c.args.memory.now done.reply done.state;
+          (done_reply c.begin_job.result) c.begin_job.new.self c.args.memory.now done.reply done.state;
     }

@@ -5,7 +5,7 @@ use Rattle.jobs.proofs.register.Register.commit.Goals as goal
 
 pub returns : goal.returns
 returns g c =
-    let done = c.commit-job.ensures in
+    let done = c.commit_job.ensures in
     let kept : KeptLaws g.O.ClassOrder g.R.LocalRule = record {
       few = g.met.O.ClassOrder.few;
       reflexive = g.met.O.ClassOrder.reflexive;
@@ -20,5 +20,5 @@ returns g c =
       state = done.state;
       memory = done.memory;
       laws = lawfully g.O.ClassOrder g.row.V-Value g.R.LocalRule kept c.args.self.now c.args.memory.now (to_commit c.args.class c.args.bay)
-          (done_reply c.commit-job.result) c.commit-job.new.self c.commit-job.new.memory done.reply done.state;
+          (done_reply c.commit_job.result) c.commit_job.new.self c.commit_job.new.memory done.reply done.state;
     }

@@ -7,7 +7,7 @@ use Rattle.register_parts.specs.declared.bay.Bay.TheVariants.{Free}
 use Rattle.jobs.proofs.RuleSteps.{rule_count}
 use Rattle.jobs.proofs.Sweeping.{rule_starts, rule_forgets, rule_keeps}
 use Rattle.jobs.proofs.register.Register.forget_late.Goals as goal
-use Rattle.jobs.proofs.register.Register.forget_late.Goals.{then-is-late, else-is-late}
+use Rattle.jobs.proofs.register.Register.forget_late.Goals.{then-is_late, else-is_late}
 
 pub loop-bay-init : goal.loop-bay-init
 loop-bay-init g c =
@@ -30,7 +30,7 @@ loop-bay-preserved g c =
     let late : ℕ → Bool = λ b. late_bay (g.O.ClassOrder.grade x.order k) c.args.tick (get_or (class_in x k).bays b Free) in
     let claims : Claims = claims_in r m.rules.now k in
     let asked : late_bay c.grade-grade.result c.args.tick c.bay.result ≡ late b = cc (c.grade-grade.ensures.reply, c.bay.ensures.reply) in
-    elim c.if-is-late.branch [
-      | then-is-late w ↦ rule_forgets r k late claims b m c.loop-bay.memory c.if-is-late.memory c.requires.1 (sym asked ∙ sym w.if-is-late.ensures) c.loop-bay.invariant (let z = w.forget.ensures.memory in (z.0, w.memory-is ∙ z.1, z.2))
-      | else-is-late w ↦ rule_keeps r k late claims b m c.loop-bay.memory c.if-is-late.memory (sym asked ∙ sym w.if-is-late.ensures) c.loop-bay.invariant w.memory-is
+    elim c.if-is_late.branch [
+      | then-is_late w ↦ rule_forgets r k late claims b m c.loop-bay.memory c.if-is_late.memory c.requires.1 (sym asked ∙ sym w.if-is_late.ensures) c.loop-bay.invariant (let z = w.forget.ensures.memory in (z.0, w.memory-is ∙ z.1, z.2))
+      | else-is_late w ↦ rule_keeps r k late claims b m c.loop-bay.memory c.if-is_late.memory (sym asked ∙ sym w.if-is_late.ensures) c.loop-bay.invariant w.memory-is
     ]

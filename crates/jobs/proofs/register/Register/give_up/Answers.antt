@@ -5,7 +5,7 @@ use Rattle.jobs.proofs.register.Register.give_up.Goals as goal
 
 pub returns : goal.returns
 returns g c =
-    let done = c.give-up-job.ensures in
+    let done = c.give_up_job.ensures in
     let kept : KeptLaws g.O.ClassOrder g.R.LocalRule = record {
       few = g.met.O.ClassOrder.few;
       reflexive = g.met.O.ClassOrder.reflexive;
@@ -20,5 +20,5 @@ returns g c =
       state = done.state;
       memory = done.memory;
       laws = lawfully g.O.ClassOrder g.row.V-Value g.R.LocalRule kept c.args.self.now c.args.memory.now (to_give_up c.args.class c.args.bay)
-          (done_reply c.give-up-job.result) c.give-up-job.new.self c.give-up-job.new.memory done.reply done.state;
+          (done_reply c.give_up_job.result) c.give_up_job.new.self c.give_up_job.new.memory done.reply done.state;
     }

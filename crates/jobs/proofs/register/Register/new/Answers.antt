@@ -19,18 +19,18 @@ returns-then-records-classes g c =
       laws = tt;
     }
 
-pub returns-in-err-counts : goal.returns-in-err-counts
-returns-in-err-counts g c =
+pub returns-in_err-counts : goal.returns-in_err-counts
+returns-in_err-counts g c =
     let o = g.O.ClassOrder in
     let classes = o.classes c.args.order in
     let counts = said c.args.records.now in
     let n = length-map c.args.records.now (λ (x : ClassSetup). x.items) in
-    let fault = c.in-err-counts.field-0.0 in
-    let p = err_from_is_err_and c.from-residual.result c.from-residual.ensures.1 in
-    let is : Err fault ≡ c.from-residual.result = sym (p.1 ∙ ap Err p.2) in
+    let fault = c.in_err-counts.field-0.0 in
+    let p = err_from_is_err_and c.from_residual.result c.from_residual.ensures.1 in
+    let is : Err fault ≡ c.from_residual.result = sym (p.1 ∙ ap Err p.2) in
     record {
       reply = subst (λ (z : Result (Register g.row.O.Denot) SetUpFault). SetUp o c.args.order (counts_for classes counts) c.args.variant z) is
-          (bad_counts o c.args.order classes counts c.args.variant (n ∙ c.if-records-classes.false ∙ c.classes.ensures.reply) fault c.in-err-counts.ensures.reply);
+          (bad_counts o c.args.order classes counts c.args.variant (n ∙ c.if-records-classes.false ∙ c.classes.ensures.reply) fault c.in_err-counts.ensures.reply);
       laws = subst (TopReached o) is tt;
     }
 
@@ -40,10 +40,10 @@ returns g c =
     let classes = o.classes c.args.order in
     let counts = said c.args.records.now in
     let n = length-map c.args.records.now (λ (x : ClassSetup). x.items) in
-    let shows = c.fresh-clock-clock.ensures.reply in
+    let shows = c.fresh_clock-clock.ensures.reply in
     record {
       reply = good_counts o c.args.order classes counts c.args.variant (n ∙ c.if-records-classes.false ∙ c.classes.ensures.reply)
-          c.in-ok-counts.counts.items _ c.in-ok-counts.ensures.reply
-          (record { order_is = refl; counts_are = refl; variant_is = refl; clock_shows = (shows.0 ∙ c.top-grade.ensures.reply, shows.1); states_are = refl });
-      laws = subst (Greatest classes (o.grade c.args.order)) (sym shows.0) c.top-grade.ensures.laws.0;
+          c.in_ok-counts.counts.items _ c.in_ok-counts.ensures.reply
+          (record { order_is = refl; counts_are = refl; variant_is = refl; clock_shows = (shows.0 ∙ c.top_grade.ensures.reply, shows.1); states_are = refl });
+      laws = subst (Greatest classes (o.grade c.args.order)) (sym shows.0) c.top_grade.ensures.laws.0;
     }

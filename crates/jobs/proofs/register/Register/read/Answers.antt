@@ -5,7 +5,7 @@ use Rattle.jobs.proofs.register.Register.read.Goals as goal
 
 pub returns : goal.returns
 returns g c =
-    let done = c.read-item.ensures in
+    let done = c.read_item.ensures in
     let kept : KeptLaws g.O.ClassOrder g.R.LocalRule = record {
       few = g.met.O.ClassOrder.few;
       reflexive = g.met.O.ClassOrder.reflexive;
@@ -20,5 +20,5 @@ returns g c =
       state = done.state;
       memory = done.memory;
       laws = lawfully g.O.ClassOrder g.row.V-Value g.R.LocalRule kept c.args.self.now c.args.memory.now (to_read c.args.class c.args.bay c.args.other c.args.item)
-          (read_reply c.read-item.result) c.read-item.new.self c.read-item.new.memory done.reply done.state;
+          (read_reply c.read_item.result) c.read_item.new.self c.read_item.new.memory done.reply done.state;
     }

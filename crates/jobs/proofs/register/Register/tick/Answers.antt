@@ -5,7 +5,7 @@ use Rattle.jobs.proofs.register.Register.tick.Goals as goal
 
 pub returns : goal.returns
 returns g c =
-    let done = c.tick-clock.ensures in
+    let done = c.tick_clock.ensures in
     let kept : KeptLaws g.O.ClassOrder g.R.LocalRule = record {
       few = g.met.O.ClassOrder.few;
       reflexive = g.met.O.ClassOrder.reflexive;
@@ -20,5 +20,5 @@ returns g c =
       state = done.state;
       memory = done.memory;
       laws = lawfully g.O.ClassOrder g.row.V-Value g.R.LocalRule kept c.args.self.now c.args.memory.now to_tick
-          (tick_reply c.tick-clock.result) c.tick-clock.new.self c.tick-clock.new.memory done.reply done.state;
+          (tick_reply c.tick_clock.result) c.tick_clock.new.self c.tick_clock.new.memory done.reply done.state;
     }

@@ -5,7 +5,7 @@ use Rattle.jobs.proofs.register.Register.write.Goals as goal
 
 pub returns : goal.returns
 returns g c =
-    let done = c.write-item.ensures in
+    let done = c.write_item.ensures in
     let kept : KeptLaws g.O.ClassOrder g.R.LocalRule = record {
       few = g.met.O.ClassOrder.few;
       reflexive = g.met.O.ClassOrder.reflexive;
@@ -20,5 +20,5 @@ returns g c =
       state = done.state;
       memory = done.memory;
       laws = lawfully g.O.ClassOrder g.row.V-Value g.R.LocalRule kept c.args.self.now c.args.memory.now (to_write c.args.class c.args.bay c.args.item c.args.value)
-          (done_reply c.write-item.result) c.write-item.new.self c.write-item.new.memory done.reply done.state;
+          (done_reply c.write_item.result) c.write_item.new.self c.write_item.new.memory done.reply done.state;
     }

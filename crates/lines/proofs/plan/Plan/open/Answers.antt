@@ -20,23 +20,23 @@ use Rattle.lines.proofs.plan.Plan.open.Goals as goal
 handed_on : (p : Plan) → said (take (p.count - 0) p.records) ≡ (draft_of p).items
 handed_on p = let n : p.count - 0 ≡ p.count = omega arith in ap (λ k. said (take k p.records)) n
 
-pub open-register-requires : goal.open-register-requires
-open-register-requires g c = plan_in_range c.args.self c.unwrap-order.result c.unwrap-order.ensures (said (take (c.args.self.count - 0) c.args.self.records)) (handed_on c.args.self)
+pub open_register-requires : goal.open_register-requires
+open_register-requires g c = plan_in_range c.args.self c.unwrap-order.result c.unwrap-order.ensures (said (take (c.args.self.count - 0) c.args.self.records)) (handed_on c.args.self)
 
-pub returns-in-err-register : goal.returns-in-err-register
-returns-in-err-register g c =
+pub returns-in_err-register : goal.returns-in_err-register
+returns-in_err-register g c =
     let p = c.args.self in
     let v = g.row.V-Value in
     let items = said (take (p.count - 0) p.records) in
     let S = set_up_with orders v rules c.unwrap-order.result items c.args.variant in
     let so = plan_setting p c.unwrap-order.result c.unwrap-order.ensures items (handed_on p) v c.args.variant in
-    let e = err_from_is_err_and c.from-residual.result c.from-residual.ensures.1 in
-    let done = c.in-err-register.ensures in
+    let e = err_from_is_err_and c.from_residual.result c.from_residual.ensures.1 in
+    let done = c.in_err-register.ensures in
     record {
       reply =
           ap fault_in e.1 ∙ ap Some e.2
-          ∙ opening_fault_is (room_of c.args.memory.now) S (drafted v (draft_of p) c.args.variant) c.args.variant (Err c.in-err-register.field-0.0) done.reply so;
-      state = subst (λ (z : Result (Register ChosenOrder) LineFault). OpenedIf v (drafted v (draft_of p) c.args.variant) c.args.memory.now z c.open-register.new.memory) (sym e.1) done.state;
+          ∙ opening_fault_is (room_of c.args.memory.now) S (drafted v (draft_of p) c.args.variant) c.args.variant (Err c.in_err-register.field-0.0) done.reply so;
+      state = subst (λ (z : Result (Register ChosenOrder) LineFault). OpenedIf v (drafted v (draft_of p) c.args.variant) c.args.memory.now z c.open_register.new.memory) (sym e.1) done.state;
     }
 
 pub returns : goal.returns
@@ -46,8 +46,8 @@ returns g c =
     let items = said (take (p.count - 0) p.records) in
     let S = set_up_with orders v rules c.unwrap-order.result items c.args.variant in
     let so = plan_setting p c.unwrap-order.result c.unwrap-order.ensures items (handed_on p) v c.args.variant in
-    let done = c.in-ok-register.ensures in
+    let done = c.in_ok-register.ensures in
     record {
       reply = opening_fault_is (room_of c.args.memory.now) S (drafted v (draft_of p) c.args.variant) c.args.variant (Ok tt) done.reply so;
-      state = subst (λ (S : Setting g.row.V.Denot). Opened orders v rules S c.args.memory.now c.in-ok-register.register c.open-register.new.memory) so done.state;
+      state = subst (λ (S : Setting g.row.V.Denot). Opened orders v rules S c.args.memory.now c.in_ok-register.register c.open_register.new.memory) so done.state;
     }

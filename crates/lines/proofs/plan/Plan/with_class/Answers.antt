@@ -12,36 +12,36 @@ use Rattle.lines.proofs.plan.Plan.with_class.Goals as goal
 pub returns-then-class-self : goal.returns-then-class-self
 returns-then-class-self c = record { reply = wrong_number c.args.self c.args.class c.args.high c.args.low c.args.items c.if-class-self.true }
 
-pub returns-in-err-new : goal.returns-in-err-new
-returns-in-err-new c =
-    let e = err_from_is_err_and c.from-residual.result c.from-residual.ensures.1 in
+pub returns-in_err-new : goal.returns-in_err-new
+returns-in_err-new c =
+    let e = err_from_is_err_and c.from_residual.result c.from_residual.ensures.1 in
     record {
       reply =
           ap draft_in e.1 ∙ ap Err e.2
           ∙ wrong_count c.args.self c.args.class c.args.high c.args.low c.args.items c.if-class-self.false c.requires (c.args.class + 1 - 0) (omega arith)
-          c.in-err-new.field-0.0 c.in-err-new.ensures.reply;
+          c.in_err-new.field-0.0 c.in_err-new.ensures.reply;
     }
 
-pub returns-in-err-order : goal.returns-in-err-order
-returns-in-err-order c =
-    let e = err_from_is_err_and c.from-residual-in-err-order.result c.from-residual-in-err-order.ensures.1 in
+pub returns-in_err-order : goal.returns-in_err-order
+returns-in_err-order c =
+    let e = err_from_is_err_and c.from_residual-in_err-order.result c.from_residual-in_err-order.ensures.1 in
     record {
       reply =
-          ap draft_in e.1 ∙ ap Err e.2 ∙ ap (with_classes (draft_of c.args.self) c.args.items) c.in-err-order.ensures.reply
+          ap draft_in e.1 ∙ ap Err e.2 ∙ ap (with_classes (draft_of c.args.self) c.args.items) c.in_err-order.ensures.reply
           ∙ right_count c.args.self c.args.class c.args.high c.args.low c.args.items c.if-class-self.false c.requires (c.args.class + 1 - 0) (omega arith)
-          c.in-ok-new.field-0.items c.in-ok-new.ensures.reply;
+          c.in_ok-new.field-0.items c.in_ok-new.ensures.reply;
     }
 
-pub invariant-of-result : goal.invariant-of-result
-invariant-of-result c =
+pub invariant_of-result : goal.invariant_of-result
+invariant_of-result c =
     let p = c.args.self in
     let class = c.args.class in
     let next = c.if-class-self.false in
-    let table = c.in-ok-new.field-0.items in
-    let checked = c.in-ok-new.ensures.reply in
+    let table = c.in_ok-new.field-0.items in
+    let checked = c.in_ok-new.ensures.reply in
     let n : class + 1 - 0 ≡ class + 1 = omega arith in
     let counts = counts_with p class c.args.high c.args.low c.args.items in
-    let more = one_class_more (classes_so_far p.kind p.order) c.args.high c.args.low (classes_in c.in-ok-order.order) c.in-ok-order.ensures.reply in
+    let more = one_class_more (classes_so_far p.kind p.order) c.args.high c.args.low (classes_in c.in_ok-order.order) c.in_ok-order.ensures.reply in
     let few_items = still_few_items p class c.args.high c.args.low c.args.items next c.requires (class + 1 - 0) n table checked in
     let few_in_all = still_few_in_all p class c.args.high c.args.low c.args.items next c.requires (class + 1 - 0) n table checked in (
       length-set p.records class (record { items = c.args.items }) ∙ p.full,
@@ -66,12 +66,12 @@ returns c =
     let class = c.args.class in
     let n : class + 1 ≡ class + 1 - 0 = omega arith in
     let counts = counts_with p class c.args.high c.args.low c.args.items in
-    let planned : List ℕ → Result Draft LineFault = λ items. Ok (record { values = p.values; wanted = p.wanted; classes = classes_in c.in-ok-order.order; items = items }) in
+    let planned : List ℕ → Result Draft LineFault = λ items. Ok (record { values = p.values; wanted = p.wanted; classes = classes_in c.in_ok-order.order; items = items }) in
     record {
       reply =
           ap (λ (k : ℕ). planned (counts k)) n
           ∙ ap planned (one_count_more p class c.args.high c.args.low c.args.items c.if-class-self.false c.requires (class + 1 - 0) (omega arith))
-          ∙ ap (with_classes (draft_of p) c.args.items) c.in-ok-order.ensures.reply
+          ∙ ap (with_classes (draft_of p) c.args.items) c.in_ok-order.ensures.reply
           ∙ right_count p class c.args.high c.args.low c.args.items c.if-class-self.false c.requires (class + 1 - 0) (omega arith)
-          c.in-ok-new.field-0.items c.in-ok-new.ensures.reply;
+          c.in_ok-new.field-0.items c.in_ok-new.ensures.reply;
     }

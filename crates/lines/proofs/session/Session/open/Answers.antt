@@ -16,22 +16,22 @@ use Rattle.lines.proofs.SessionStart.{words_refused, slips_refused, words_accept
 use Rattle.lines.proofs.session.Session.open.Goals as goal
 use Rattle.lines.proofs.session.Session.open.Goals.{in-Words+in-ok-register, in-Slips+in-ok-register-2}
 
-pub returns-in-err-register : goal.returns-in-err-register
-returns-in-err-register c =
+pub returns-in_err-register : goal.returns-in_err-register
+returns-in_err-register c =
     let s = c.args.self.now in
     let m = c.args.supplied.now in
-    let p = err_from_is_err_and c.from-residual.result c.from-residual.ensures.1 in
-    let z = words_refused s m c.requires.0 c.in-Words.is c.args.variant c.in-err-register.field-0.0 c.open.new.memory
-    c.in-err-register.ensures.reply c.in-err-register.ensures.state in
+    let p = err_from_is_err_and c.from_residual.result c.from_residual.ensures.1 in
+    let z = words_refused s m c.requires.0 c.in-Words.is c.args.variant c.in_err-register.field-0.0 c.open.new.memory
+    c.in_err-register.ensures.reply c.in_err-register.ensures.state in
     record { reply = ap told (p.1 ∙ ap Err p.2) ∙ z.reply; leaves = leaves_so s m s (record { words = c.open.new.memory; slips = m.slips }) z }
 
-pub returns-in-err-register-2 : goal.returns-in-err-register-2
-returns-in-err-register-2 c =
+pub returns-in_err-register-2 : goal.returns-in_err-register-2
+returns-in_err-register-2 c =
     let s = c.args.self.now in
     let m = c.args.supplied.now in
-    let p = err_from_is_err_and c.from-residual-in-err-register-2.result c.from-residual-in-err-register-2.ensures.1 in
-    let z = slips_refused s m c.requires.0 c.in-Slips.is c.args.variant c.in-err-register-2.field-0.0 c.open-in-Slips.new.memory
-    c.in-err-register-2.ensures.reply c.in-err-register-2.ensures.state in
+    let p = err_from_is_err_and c.from_residual-in_err-register-2.result c.from_residual-in_err-register-2.ensures.1 in
+    let z = slips_refused s m c.requires.0 c.in-Slips.is c.args.variant c.in_err-register-2.field-0.0 c.open-in-Slips.new.memory
+    c.in_err-register-2.ensures.reply c.in_err-register-2.ensures.state in
     record { reply = ap told (p.1 ∙ ap Err p.2) ∙ z.reply; leaves = leaves_so s m s (record { words = m.words; slips = c.open-in-Slips.new.memory }) z }
 
 -- Where the two kinds meet again: the register x and the memory m' are those of one of them.
@@ -56,10 +56,10 @@ returns c =
     (phase_of (record { stage = Serving; plan = s.plan; register = c.match-self.register }) c.match-self.supplied) c.match-self.supplied =
     elim c.match-self.branch [
       | in-Words+in-ok-register w ↦ opened c _ _ w.register-is w.supplied-is
-          (words_accepted s m c.requires.0 c.args.variant c.done.result c.done.ensures.reply w.in-ok-register.register w.in-Words.is w.open.new.memory
-          w.in-ok-register.ensures.reply w.in-ok-register.ensures.state)
+          (words_accepted s m c.requires.0 c.args.variant c.done.result c.done.ensures.reply w.in_ok-register.register w.in-Words.is w.open.new.memory
+          w.in_ok-register.ensures.reply w.in_ok-register.ensures.state)
       | in-Slips+in-ok-register-2 w ↦ opened c _ _ w.register-is w.supplied-is
-          (slips_accepted s m c.requires.0 c.args.variant c.done.result c.done.ensures.reply w.in-ok-register-2.register w.in-Slips.is w.open-in-Slips.new.memory
-          w.in-ok-register-2.ensures.reply w.in-ok-register-2.ensures.state)
+          (slips_accepted s m c.requires.0 c.args.variant c.done.result c.done.ensures.reply w.in_ok-register-2.register w.in-Slips.is w.open-in-Slips.new.memory
+          w.in_ok-register-2.ensures.reply w.in_ok-register-2.ensures.state)
     ] in
     record { reply = met.reply; leaves = leaves_so s m (record { stage = Serving; plan = s.plan; register = c.match-self.register }) c.match-self.supplied met }

@@ -15,7 +15,7 @@ loop-line-preserved c =
     let t = c.loop-line.taken in
     let out = c.loop-line.output in
     goes_on c.args.self.now c.args.supplied.now c.args.input.now c.args.output.now c.loop-line.self c.loop-line.supplied out t w c.loop-line.invariant
-    (take (length c.args.input.now - t) (drop t c.args.input.now)) (take (length out - w) (drop w out)) d.0 c.in-Some.line c.answer-line.new.self c.answer-line.new.supplied c.answer-line.new.output
+    (take (length c.args.input.now - t) (drop t c.args.input.now)) (take (length out - w) (drop w out)) d.0 c.in-Some.line c.answer_line.new.self c.answer_line.new.supplied c.answer_line.new.output
     (take_rest c.args.input.now t) refl d.1
 
 pub returns : goal.returns
@@ -24,6 +24,6 @@ returns c =
     let t = c.loop-line.taken in
     let out = c.loop-line.output in
     let z = ended c.args.self.now c.args.supplied.now c.args.input.now c.args.output.now c.loop-line.self c.loop-line.supplied out t w c.loop-line.invariant
-    (take (length c.args.input.now - t) (drop t c.args.input.now)) (take (length out - w) (drop w out)) c.answer-line.new.self c.answer-line.new.supplied c.answer-line.new.output
-    (take_rest c.args.input.now t) refl c.in-default.ensures.done in
+    (take (length c.args.input.now - t) (drop t c.args.input.now)) (take (length out - w) (drop w out)) c.answer_line.new.self c.answer_line.new.supplied c.answer_line.new.output
+    (take_rest c.args.input.now t) refl c.in_default.ensures.done in
     record { reply = z.reply; memory = z.memory; laws = z.laws }

@@ -15,8 +15,8 @@ module _ (grades : List ℕ) (p : Members) (e grade : ℕ) (inv : grade ≡ grea
   other : p e ≡ false → grade ≡ greatest_below (e + 1) (step_up p (λ e. get_or grades e 0))
   other t = rw (add-one, t) (omega arith)
 
-pub overflow-add-self : goal.overflow-add-self
-overflow-add-self c =
+pub overflow_add-self : goal.overflow_add-self
+overflow_add-self c =
     let s = c.args.self.now in
     omega (arith, s.drawn.1, s.tables.1 c.loop-e.e, grade_le s.count (drawing_of s) s.drawn c.loop-e.e (omega arith))
 

@@ -4,14 +4,14 @@ use Rattle.laws.specs.Clock.{declared, last_tick, tick_grade}
 use Rattle.register_parts.proofs.Tables.{tick_table, tick_declares}
 use Rattle.register_parts.proofs.clock.Clock.advance.Goals as goal
 
-pub invariant-of-self : goal.invariant-of-self
-invariant-of-self c =
+pub invariant_of-self : goal.invariant_of-self
+invariant_of-self c =
     let x = c.args.self.now in
     let turn : tick_grade x.top x.ticks < suc x.top = mod-lt x.ticks (omega arith) in
     let within : tick_grade x.top x.ticks < length x.numbers = omega (arith, x.low) in (
       x.low,
       (
-        omega (arith, c.if-self-ge-LAST-TICK.false),
+        omega (arith, c.if-self-ge-LAST_TICK.false),
         (subst (λ (table : List ℕ). (g : ℕ) → get_or table g 0 ≡ declared x.top g (x.ticks + 1)) (sym c.declare.ensures.state) (tick_table x.numbers x.top x.ticks c.next-next.result c.next-next.ensures.reply within x.counted), tt),
       ),
     )
@@ -19,7 +19,7 @@ invariant-of-self c =
 pub returns : goal.returns
 returns c =
     let x = c.args.self.now in
-    let before_end : ltb x.ticks last_tick ≡ true = lt-ltb x.ticks last_tick c.if-self-ge-LAST-TICK.false in
+    let before_end : ltb x.ticks last_tick ≡ true = lt-ltb x.ticks last_tick c.if-self-ge-LAST_TICK.false in
     record {
       reply = rw before_end (ap Ok c.next-next.ensures.reply);
       state = (refl, rw before_end (add-one x.ticks));

@@ -13,13 +13,13 @@ as_many records = length-map records (λ (x : ClassSetup). x.items)
 count_at : (records : List ClassSetup) (i : ℕ) → i < length records → (get_or records i (record { items = 0 })).items ≡ get_or (said records) i 0
 count_at records i h = sym (get_or-map (λ (x : ClassSetup). x.items) records i (record { items = 0 }) 0 h)
 
-pub returns-then-records-gt-MOST-CLASSES : goal.returns-then-records-gt-MOST-CLASSES
-returns-then-records-gt-MOST-CLASSES c =
+pub returns-then-records-gt-MOST_CLASSES : goal.returns-then-records-gt-MOST_CLASSES
+returns-then-records-gt-MOST_CLASSES c =
     let n = as_many c.args.records.now in
-    record { reply = too_many_classes (said c.args.records.now) (omega (arith, c.if-records-gt-MOST-CLASSES.true)) }
+    record { reply = too_many_classes (said c.args.records.now) (omega (arith, c.if-records-gt-MOST_CLASSES.true)) }
 
-pub returns-then-record-gt-MOST-ITEMS : goal.returns-then-record-gt-MOST-ITEMS
-returns-then-record-gt-MOST-ITEMS c =
+pub returns-then-record-gt-MOST_ITEMS : goal.returns-then-record-gt-MOST_ITEMS
+returns-then-record-gt-MOST_ITEMS c =
     let records = c.args.records.now in
     let i = c.loop-class.class in
     let n = as_many records in
@@ -34,14 +34,14 @@ loop-class-preserved c =
     let within : i < length records = omega arith in
     counted_next (said records) c.loop-class.items i c.loop-class.sum (get_or records i (record { items = 0 })).items c.loop-class.invariant (omega arith) (omega arith) (count_at records i within) (omega arith)
 
-pub returns-then-sum-gt-MOST-ITEMS-IN-ALL : goal.returns-then-sum-gt-MOST-ITEMS-IN-ALL
-returns-then-sum-gt-MOST-ITEMS-IN-ALL c =
+pub returns-then-sum-gt-MOST_ITEMS_IN_ALL : goal.returns-then-sum-gt-MOST_ITEMS_IN_ALL
+returns-then-sum-gt-MOST_ITEMS_IN_ALL c =
     let records = c.args.records.now in
     let n = as_many records in
     record { reply = too_many_in_all (said records) (omega arith) c.loop-class.items c.loop-class.class c.loop-class.sum c.loop-class.invariant (omega arith) (omega arith) }
 
-pub invariant-of-result : goal.invariant-of-result
-invariant-of-result c =
+pub invariant_of-result : goal.invariant_of-result
+invariant_of-result c =
     let records = c.args.records.now in
     let n = as_many records in (
       table_small (said records) (omega arith) c.loop-class.items c.loop-class.class c.loop-class.sum c.loop-class.invariant (omega arith),

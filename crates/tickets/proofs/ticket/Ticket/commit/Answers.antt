@@ -12,5 +12,5 @@ returns g c =
       state = c.commit-reply.ensures.state;
       memory = c.commit-reply.ensures.memory;
       laws = search rules;
-      ticket = c.hand-in.ensures.ticket ∙ ap (λ (enough : Bool). handed_back enough t) e;
+      ticket = c.hand_in.ensures.ticket ∙ ap (λ (enough : Bool). handed_back enough t) e;
     }
