@@ -77,7 +77,7 @@ module _ {V : Type 0} (S : Setting V) where
   Tracks t c (running (reading r)) j = Reading t c r j
 
 module _ {V : Type 0} (S : Setting V) (L : Lawful S) where
-  module _ (t : ℕ) (CellsOf : ℕ → ℕ → Cell V) (c : ℕ) (k : Class V) (b : ℕ) (lc : c < S.classes) where
+  module _ (t : ℕ) (cells_of : ℕ → ℕ → Cell V) (c : ℕ) (k : Class V) (b : ℕ) (lc : c < S.classes) where
     down_more : (dn : Option ℕ) (low : Option Time) → dn ≡ down_since S c update low
         → Some (or_else dn (declared_under S t c)) ≡ down_since S c update (Some (or_else low (at_tick S t)))
     down_more dn None e = rw e
@@ -120,7 +120,7 @@ module _ {V : Type 0} (S : Setting V) (L : Lawful S) where
     abbrev pub Next : Action V → Outcome V → Transaction V → Type 0
     Next a o j = Tracks S t c (o.next.bays b) (continued c b (at_tick S t) (event (by c b a) o.reply) j)
 
-    pub tracks_own : (a : Action V) (o : Outcome V) (j : Transaction V) → Tracks S t c (k.bays b) j → Course S t CellsOf c k b a o → Next a o j
+    pub tracks_own : (a : Action V) (o : Outcome V) (j : Transaction V) → Tracks S t c (k.bays b) j → Course S t cells_of c k b a o → Next a o j
     tracks_own a o j l (is_refused n h e) = rw e l
     tracks_own a o j l (is_denied b' e) = rw e l
     tracks_own a o j l (began_update q e y f g) = rw (g, f, y) (simp eqb_same new_updating)
@@ -153,7 +153,7 @@ module _ {V : Type 0} (S : Setting V) (L : Lawful S) where
     tracks_own a o j l (committed_long r e f g) = rw (g, f) (simp (eqb_same) tt)
     tracks_own a o j l (committed_update dn p e h s f g) = rw (g, f) (simp (eqb_same) tt)
 
-    pub bays_other : (a : Action V) (o : Outcome V) → Course S t CellsOf c k b a o → (b' : ℕ) → eqb b b' ≡ false → o.next.bays b' ≡ k.bays b'
+    pub bays_other : (a : Action V) (o : Outcome V) → Course S t cells_of c k b a o → (b' : ℕ) → eqb b b' ≡ false → o.next.bays b' ≡ k.bays b'
     bays_other a o (is_refused n h e) b' x = rw e
     bays_other a o (is_denied b'' e) b' x = rw e
     bays_other a o (began_update q e y f g) b' x = rw (g, x)

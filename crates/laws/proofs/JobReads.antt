@@ -33,26 +33,26 @@ pub record Undisturbed {V : Type 0} (b : ℕ) (k k' : Claims) (cells cells' : �
 
 -- Reads at a number below the writing number, but by no more than two, give the same.
 abbrev pub Calm : {V : Type 0} → Setting V → ℕ → (ℕ → ℕ → Cell V) → (ℕ → ℕ → Cell V) → Type 0
-Calm S t CellsOf cells_of' =
-    (d i n : ℕ) → d < S.classes → n < writing_number S t d → writing_number S t d ≤ n + 2 → value_at n (cells_of' d i) ≡ value_at n (CellsOf d i)
+Calm S t cells_of cells_of' =
+    (d i n : ℕ) → d < S.classes → n < writing_number S t d → writing_number S t d ≤ n + 2 → value_at n (cells_of' d i) ≡ value_at n (cells_of d i)
 
 module _ {V : Type 0} (S : Setting V) where
-  pub record UpdateRead (CellsOf : ℕ → ℕ → Cell V) (k : Claims) (c b : ℕ) (dn : Option ℕ) (p : List (Pending V)) (j : Transaction V) : Type 0 where
-    pub reads : k.stale b ≡ false → (m : Copy V) → ((i : ℕ) → k.reads b i ≡ true → Some (m c i) ≡ newest_value (CellsOf c i))
-        → ((d i a : ℕ) → ¬ (c ≡ d) → dominates S c d ≡ true → dn ≡ Some a → Some (m d i) ≡ value_at a (CellsOf d i))
+  pub record UpdateRead (cells_of : ℕ → ℕ → Cell V) (k : Claims) (c b : ℕ) (dn : Option ℕ) (p : List (Pending V)) (j : Transaction V) : Type 0 where
+    pub reads : k.stale b ≡ false → (m : Copy V) → ((i : ℕ) → k.reads b i ≡ true → Some (m c i) ≡ newest_value (cells_of c i))
+        → ((d i a : ℕ) → ¬ (c ≡ d) → dominates S c d ≡ true → dn ≡ Some a → Some (m d i) ≡ value_at a (cells_of d i))
         → ReadsOfJob m j.operations
     pub allowed : ReadsAllowed S c update j.below j.operations
     pub claims : (i : ℕ) (v : V) → find i p ≡ Some v → (k.writes b i ≡ true) × (i < S.items c)
 
-  pub record LongRead (CellsOf : ℕ → ℕ → Cell V) (c r : ℕ) (j : Transaction V) : Type 0 where
-    pub reads : (m : Copy V) → ((d i : ℕ) → dominates S c d ≡ true → Some (m d i) ≡ value_at r (CellsOf d i)) → ReadsOfJob m j.operations
+  pub record LongRead (cells_of : ℕ → ℕ → Cell V) (c r : ℕ) (j : Transaction V) : Type 0 where
+    pub reads : (m : Copy V) → ((d i : ℕ) → dominates S c d ≡ true → Some (m d i) ≡ value_at r (cells_of d i)) → ReadsOfJob m j.operations
     pub allowed : ReadsAllowed S c long j.below j.operations
 
   abbrev pub Sound : (ℕ → ℕ → Cell V) → Claims → ℕ → ℕ → Bay V → Transaction V → Type 0
-  Sound CellsOf k c b free j = Unit {0}
-  Sound CellsOf k c b closed j = Unit {0}
-  Sound CellsOf k c b (running (updating dn p)) j = UpdateRead CellsOf k c b dn p j
-  Sound CellsOf k c b (running (reading r)) j = LongRead CellsOf c r j
+  Sound cells_of k c b free j = Unit {0}
+  Sound cells_of k c b closed j = Unit {0}
+  Sound cells_of k c b (running (updating dn p)) j = UpdateRead cells_of k c b dn p j
+  Sound cells_of k c b (running (reading r)) j = LongRead cells_of c r j
 
   allowed_long : (c : ℕ) (low low' : Option Time) (ds : List (Operation V)) → ReadsAllowed S c long low ds → ReadsAllowed S c long low' ds
   allowed_long c low low' [] l = tt
@@ -67,8 +67,8 @@ module _ {V : Type 0} (S : Setting V) where
   same_down : (dn : Option ℕ) (x a : ℕ) → dn ≡ Some a → Some (or_else dn x) ≡ Some a
   same_down dn x a e = rw e
 
-  module _ (L : Lawful S) (t : ℕ) (CellsOf : ℕ → ℕ → Cell V) (c : ℕ) (k : Class V) (b : ℕ) (lc : c < S.classes)
-      (here : (i : ℕ) → CellsOf c i ≡ k.cells i) where
+  module _ (L : Lawful S) (t : ℕ) (cells_of : ℕ → ℕ → Cell V) (c : ℕ) (k : Class V) (b : ℕ) (lc : c < S.classes)
+      (here : (i : ℕ) → cells_of c i ≡ k.cells i) where
     more_claims : (p : List (Pending V)) (i : ℕ) (v : V) → i < S.items c
         → ((i' : ℕ) (v' : V) → find i' p ≡ Some v' → (k.claims.writes b i' ≡ true) × (i' < S.items c))
         → (i' : ℕ) (v' : V) → find i' (pend i v p) ≡ Some v' → (q : Bool) → eqb i' i ≡ q
@@ -78,22 +78,22 @@ module _ {V : Type 0} (S : Setting V) where
     more_claims p i v h w i' v' x false e =
         let z = w i' v' (rw e at (sym (find_pend i' i v p) ∙ x)) in (or_right _ _ z.0, z.1)
 
-    pub sound_own : (a : Action V) (o : Outcome V) (j : Transaction V) → Tracks S t c (k.bays b) j → Sound CellsOf k.claims c b (k.bays b) j
-        → Course S t CellsOf c k b a o → Sound CellsOf o.next.claims c b (o.next.bays b) (continued c b (at_tick S t) (event (by c b a) o.reply) j)
+    pub sound_own : (a : Action V) (o : Outcome V) (j : Transaction V) → Tracks S t c (k.bays b) j → Sound cells_of k.claims c b (k.bays b) j
+        → Course S t cells_of c k b a o → Sound cells_of o.next.claims c b (o.next.bays b) (continued c b (at_tick S t) (event (by c b a) o.reply) j)
     sound_own a o j l s (is_refused n h e) = rw e s
     sound_own a o j l s (is_denied b' e) = rw e s
     sound_own a o j l s (began_update q e y f g) = rw (g, f, y) (simp eqb_same (record { reads = λ st m x y. tt; allowed = tt; claims = λ i v x. none_not_some x }))
     sound_own a o j l s (began_long q e y f g) = rw (g, f, y) (simp eqb_same (record { reads = λ m x. tt; allowed = tt }))
     sound_own a o j l s (read_long r d i e h f g) =
         let u : Reading S t c r j = rw e at l in
-        let v : LongRead CellsOf c r j = rw e at s in
+        let v : LongRead cells_of c r j = rw e at s in
         rw (g, f) (simp (eqb_same, e) (record {
           reads = λ m x. (ap (or_start S) (sym (x d i h)) ∙ sym (after_none m d i j.operations u.mute), v.reads m x);
           allowed = ((h, λ z. long_not_update z), allowed_long c j.below _ j.operations v.allowed);
         }))
     sound_own a o j l s (read_pending dn p i v e h f g) =
         let u : Updating S t c dn p j = rw e at l in
-        let w : UpdateRead CellsOf k.claims c b dn p j = rw e at s in
+        let w : UpdateRead cells_of k.claims c b dn p j = rw e at s in
         rw (g, f) (simp (eqb_same, e) (record {
           reads = λ st m x y. (sym (sees_own m c i v j.operations u.own (sym (u.pending i) ∙ h)), w.reads st m x y);
           allowed = ((reflexive S L c lc, λ z n. absurd (n refl)), w.allowed);
@@ -101,7 +101,7 @@ module _ {V : Type 0} (S : Setting V) where
         }))
     sound_own a o j l s (read_newest dn p i e h q f g) =
         let u : Updating S t c dn p j = rw e at l in
-        let w : UpdateRead CellsOf k.claims c b dn p j = rw e at s in
+        let w : UpdateRead cells_of k.claims c b dn p j = rw e at s in
         rw (g, f) (simp (eqb_same, e) (record {
           reads = λ st m x y. (
             ap (λ (z : Cell V). or_start S (newest_value z)) (sym (here i))
@@ -114,7 +114,7 @@ module _ {V : Type 0} (S : Setting V) where
         }))
     sound_own a o j l s (read_lower dn p d i e n h f g) =
         let u : Updating S t c dn p j = rw e at l in
-        let w : UpdateRead CellsOf k.claims c b dn p j = rw e at s in
+        let w : UpdateRead cells_of k.claims c b dn p j = rw e at s in
         rw (g, f) (simp (eqb_same, ne_eqb c d n) (record {
           reads = λ st m x y. (
             ap (or_start S) (sym (y d i _ n h refl)) ∙ sym (after_other m c d i j.operations u.own n),
@@ -124,7 +124,7 @@ module _ {V : Type 0} (S : Setting V) where
           claims = w.claims;
         }))
     sound_own a o j l s (wrote_item dn p i v e h f g) =
-        let w : UpdateRead CellsOf k.claims c b dn p j = rw e at s in
+        let w : UpdateRead cells_of k.claims c b dn p j = rw e at s in
         rw (g, f) (simp (eqb_same) (record { reads = w.reads; allowed = w.allowed; claims = λ i' v' x. more_claims p i v h w.claims i' v' x _ refl }))
     sound_own a o j l s (failed n x h e f g) = rw g (simp (eqb_same) tt)
     sound_own a o j l s (learned_late e f g) = rw g (simp (eqb_same) tt)
@@ -134,11 +134,11 @@ module _ {V : Type 0} (S : Setting V) where
     sound_own a o j l s (committed_update dn p e h q f g) = rw (g, f) (simp (eqb_same) tt)
 
   -- So it stays while others act.
-  module _ (L : Lawful S) (t : ℕ) (c b : ℕ) (lc : c < S.classes) (CellsOf cells_of' : ℕ → ℕ → Cell V) (k k' : Claims)
-      (U : Undisturbed b k k' (CellsOf c) (cells_of' c)) (calm : Calm S t CellsOf cells_of') where
+  module _ (L : Lawful S) (t : ℕ) (c b : ℕ) (lc : c < S.classes) (cells_of cells_of' : ℕ → ℕ → Cell V) (k k' : Claims)
+      (U : Undisturbed b k k' (cells_of c) (cells_of' c)) (calm : Calm S t cells_of cells_of') where
     -- Reads of an update job from below are at such a number.
     calm_below : (dn : Option ℕ) (p : List (Pending V)) (j : Transaction V) → Updating S t c dn p j → (low : Option Time) → j.below ≡ low
-        → (d i a : ℕ) → ¬ (c ≡ d) → dominates S c d ≡ true → dn ≡ Some a → value_at a (cells_of' d i) ≡ value_at a (CellsOf d i)
+        → (d i a : ℕ) → ¬ (c ≡ d) → dominates S c d ≡ true → dn ≡ Some a → value_at a (cells_of' d i) ≡ value_at a (cells_of d i)
     calm_below dn p j u None f d i a n h e = none_not_some (sym (rw f at u.down) ∙ e)
     calm_below dn p j u (Some q) f d i a n h e =
         let x : Some a ≡ Some (q.declared (S.grade c - 1)) = sym e ∙ (rw f at u.down) in
@@ -156,7 +156,7 @@ module _ {V : Type 0} (S : Setting V) where
     grade_le d h true e = rw (eqb-true c d e) (omega arith)
     grade_le d h false e = omega (arith, lower S L c d h (eqb-false c d e))
 
-    calm_long : (r : ℕ) (j : Transaction V) → Reading S t c r j → (d i : ℕ) → dominates S c d ≡ true → value_at r (cells_of' d i) ≡ value_at r (CellsOf d i)
+    calm_long : (r : ℕ) (j : Transaction V) → Reading S t c r j → (d i : ℕ) → dominates S c d ≡ true → value_at r (cells_of' d i) ≡ value_at r (cells_of d i)
     calm_long r j u d i h =
         let kd = inside S L c d h in
         let g = grade_le d h _ refl in
@@ -165,7 +165,7 @@ module _ {V : Type 0} (S : Setting V) where
         let s'' = declared_falls S.top 0 (S.grade d) t (omega arith) (L.graded d kd) in
         calm d i r kd (omega (arith, u.number, u.exact (S.grade c))) (omega (arith, u.young))
 
-    pub sound_move : (x : Bay V) (j : Transaction V) → Tracks S t c x j → Sound CellsOf k c b x j → Sound cells_of' k' c b x j
+    pub sound_move : (x : Bay V) (j : Transaction V) → Tracks S t c x j → Sound cells_of k c b x j → Sound cells_of' k' c b x j
     sound_move free j l s = tt
     sound_move closed j l s = tt
     sound_move (running (updating dn p)) j l s = record {

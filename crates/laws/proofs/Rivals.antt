@@ -18,7 +18,7 @@ use Rattle.laws.proofs.JobReads.{Undisturbed, UpdateRead, Sound}
 pub left_in : (q r : Bool) → q ≡ false → (not q && r) ≡ r
 left_in q r e = rw e
 
-module _ {V : Type 0} (S : Setting V) (t : ℕ) (CellsOf : ℕ → ℕ → Cell V) (c : ℕ) (k : Class V) (b : ℕ) where
+module _ {V : Type 0} (S : Setting V) (t : ℕ) (cells_of : ℕ → ℕ → Cell V) (c : ℕ) (k : Class V) (b : ℕ) where
   -- An action commits nothing and leaves floor and cells, or it commits a long job or an update job.
   pub data Effect (a : Action V) (o : Outcome V) : Type 0 where
     quiet : o.next.floor ≡ k.floor → o.next.cells ≡ k.cells
@@ -28,7 +28,7 @@ module _ {V : Type 0} (S : Setting V) (t : ℕ) (CellsOf : ℕ → ℕ → Cell 
         → below_floor k.floor down ≡ false → invalid k.claims b ≡ false → a ≡ commit
         → o ≡ record { reply = done; next = after_commit (S.items c) (writing_number S t c) k b down p } → Effect a o
 
-  pub effect : (a : Action V) (o : Outcome V) → Course S t CellsOf c k b a o → Effect a o
+  pub effect : (a : Action V) (o : Outcome V) → Course S t cells_of c k b a o → Effect a o
   effect a o (is_refused n h e) = quiet (rw e) (rw e) (λ x y. rw e)
   effect a o (is_denied b' e) = quiet (rw e) (rw e) (λ x y. rw e)
   effect a o (began_update q e y f g) = quiet (rw g) (rw g) (λ x y. rw (g, f))
@@ -46,7 +46,7 @@ module _ {V : Type 0} (S : Setting V) (t : ℕ) (CellsOf : ℕ → ℕ → Cell 
   effect a o (committed_update dn p e h q f g) = update_commit dn p e h q f g
 
   -- Reads at a number up to two below the writing number are calm: the action does not change them.
-  pub calm_cell : (a : Action V) (o : Outcome V) → Course S t CellsOf c k b a o → (i n : ℕ) → Falls (k.cells i) → head (k.cells i) ≤ writing_number S t c
+  pub calm_cell : (a : Action V) (o : Outcome V) → Course S t cells_of c k b a o → (i n : ℕ) → Falls (k.cells i) → head (k.cells i) ≤ writing_number S t c
       → n < writing_number S t c → writing_number S t c ≤ n + 2 → value_at n (o.next.cells i) ≡ value_at n (k.cells i)
   calm_cell a o x i n f h l l' = go (effect a o x)
     where
@@ -95,7 +95,7 @@ module _ {V : Type 0} (S : Setting V) (t : ℕ) (CellsOf : ℕ → ℕ → Cell 
       go i z y q f (Some v) e =
           true_not_false (sym (overlap_at (k.claims.writes b) (k.claims.reads b') i (omega (arith, (cl i v e).1)) (cl i v e).0 z) ∙ y)
 
-  pub undisturbed : S.items c ≤ 64 → (a : Action V) (o : Outcome V) (j : Transaction V) → Sound S CellsOf k.claims c b (k.bays b) j → Course S t CellsOf c k b a o
+  pub undisturbed : S.items c ≤ 64 → (a : Action V) (o : Outcome V) (j : Transaction V) → Sound S cells_of k.claims c b (k.bays b) j → Course S t cells_of c k b a o
       → (b' : ℕ) → eqb b b' ≡ false → Leaves o b'
   undisturbed few a o j s (is_refused n h e) b' x = same_claims o b' (rw e) (rw e)
   undisturbed few a o j s (is_denied b'' e) b' x = same_claims o b' (rw e) (rw e)
@@ -112,5 +112,5 @@ module _ {V : Type 0} (S : Setting V) (t : ℕ) (CellsOf : ℕ → ℕ → Cell 
   undisturbed few a o j s (gave_up y e f g) b' x = freed_claims o b' x (rw g)
   undisturbed few a o j s (committed_long r e f g) b' x = freed_claims o b' x (rw g)
   undisturbed few a o j s (committed_update dn p e h q f g) b' x =
-      let u : UpdateRead S CellsOf k.claims c b dn p j = rw e at s in
+      let u : UpdateRead S cells_of k.claims c b dn p j = rw e at s in
       rw g (settled_rivals dn p u.claims few b' x _)

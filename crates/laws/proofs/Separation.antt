@@ -15,22 +15,22 @@ use Rattle.laws.proofs.Dominance.{transitive}
 
 module _ {V : Type 0} (S : Setting V) where
   -- An action depends on the cells of dominated classes alone.
-  module _ (t : ℕ) (CellsOf cells_of' : ℕ → ℕ → Cell V) (c : ℕ) (k : Class V) (b : ℕ)
-      (same : (d : ℕ) → dominates S c d ≡ true → CellsOf d ≡ cells_of' d) where
-    reads_by_local : (j : Job V) (d i : ℕ) → CellsOf d ≡ cells_of' d → reads_by S t CellsOf c k b j d i ≡ reads_by S t cells_of' c k b j d i
+  module _ (t : ℕ) (cells_of cells_of' : ℕ → ℕ → Cell V) (c : ℕ) (k : Class V) (b : ℕ)
+      (same : (d : ℕ) → dominates S c d ≡ true → cells_of d ≡ cells_of' d) where
+    reads_by_local : (j : Job V) (d i : ℕ) → cells_of d ≡ cells_of' d → reads_by S t cells_of c k b j d i ≡ reads_by S t cells_of' c k b j d i
     reads_by_local (reading r) d i e = rw e
     reads_by_local (updating down p) d i e = rw e
 
-    reads_local : (x : Bay V) (d i : ℕ) → reads_in S t CellsOf c k b d i x ≡ reads_in S t cells_of' c k b d i x
+    reads_local : (x : Bay V) (d i : ℕ) → reads_in S t cells_of c k b d i x ≡ reads_in S t cells_of' c k b d i x
     reads_local free d i = refl
     reads_local closed d i = refl
     reads_local (running j) d i = go (dominates S c d) refl
       where
-        go : (q : Bool) → dominates S c d ≡ q → reads_in S t CellsOf c k b d i (running j) ≡ reads_in S t cells_of' c k b d i (running j)
+        go : (q : Bool) → dominates S c d ≡ q → reads_in S t cells_of c k b d i (running j) ≡ reads_in S t cells_of' c k b d i (running j)
         go false e = rw e
         go true e = rw (reads_by_local j d i (same d e))
 
-    perform_local : (a : Action V) → perform S t CellsOf c k b a ≡ perform S t cells_of' c k b a
+    perform_local : (a : Action V) → perform S t cells_of c k b a ≡ perform S t cells_of' c k b a
     perform_local (begin q) = refl
     perform_local (read d i) = reads_local (k.bays b) d i
     perform_local (write i v) = refl

@@ -21,13 +21,13 @@ module _ {V : Type 0} (S : Setting V) where
   abbrev pub view : ℕ → ℕ → List (Committed V) → ℕ → V
   view d n xs i = after_jobs (start_copy S) (filter (wrote_by d n) xs) d i
 
-  pub record Serial (t : ℕ) (floor : ℕ → ℕ) (CellsOf : ℕ → ℕ → Cell V) (js : List (Committed V)) : Type 0 where
+  pub record Serial (t : ℕ) (floor : ℕ → ℕ) (cells_of : ℕ → ℕ → Cell V) (js : List (Committed V)) : Type 0 where
     pub floors : (c : ℕ) → c < S.classes → floor c ≡ floor_of S c js
     pub floor_low : (c : ℕ) → c < S.classes → floor_of S c js ≤ declared_at S (S.grade c) t + 1
-    pub falls : (c i : ℕ) → c < S.classes → Falls (CellsOf c i)
-    pub heads : (c i : ℕ) → c < S.classes → head (CellsOf c i) ≤ declared_at S (S.grade c) t + 1
-    pub reads : (c i n : ℕ) → c < S.classes → head (CellsOf c i) ≤ n + 2 → value_at n (CellsOf c i) ≡ Some (view c n (placed S js) i)
-    pub newests : (c i : ℕ) → c < S.classes → newest_value (CellsOf c i) ≡ Some (after_jobs (start_copy S) (placed S js) c i)
+    pub falls : (c i : ℕ) → c < S.classes → Falls (cells_of c i)
+    pub heads : (c i : ℕ) → c < S.classes → head (cells_of c i) ≤ declared_at S (S.grade c) t + 1
+    pub reads : (c i n : ℕ) → c < S.classes → head (cells_of c i) ≤ n + 2 → value_at n (cells_of c i) ≡ Some (view c n (placed S js) i)
+    pub newests : (c i : ℕ) → c < S.classes → newest_value (cells_of c i) ≡ Some (after_jobs (start_copy S) (placed S js) c i)
     pub well_placed : All (λ x. WellPlaced S t (floor_of S x.class js) x) (placed S js)
     pub ordered : Ordered S (placed S js)
     pub true_reads : ReadsOfCopy (start_copy S) (placed S js)
@@ -72,8 +72,8 @@ module _ {V : Type 0} (S : Setting V) where
   blind_of c c' k low (write_of d i v ∷ ds) l h = blind_of c c' k low ds l h
 
   -- Later, when no job has committed.
-  pub serial_later : (t t' : ℕ) (floor : ℕ → ℕ) (CellsOf : ℕ → ℕ → Cell V) (js : List (Committed V)) → t ≤ t' → Serial t floor CellsOf js → Serial t' floor CellsOf js
-  serial_later t t' floor CellsOf js h B = record {
+  pub serial_later : (t t' : ℕ) (floor : ℕ → ℕ) (cells_of : ℕ → ℕ → Cell V) (js : List (Committed V)) → t ≤ t' → Serial t floor cells_of js → Serial t' floor cells_of js
+  serial_later t t' floor cells_of js h B = record {
     floors = B.floors;
     falls = B.falls;
     reads = B.reads;

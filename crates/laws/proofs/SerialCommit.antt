@@ -20,7 +20,7 @@ use Rattle.laws.proofs.Order.{Split, split, all_insert, ordered_insert}
 use Rattle.laws.proofs.Places.{declared_at, WellPlaced, well_placed_later, CommitsNow, own_first, readers_first, below_before, below_after, long_before, long_after_below, long_after_own}
 use Rattle.laws.proofs.Serial.{wrote_by, view, Serial, quiet_other, quiet_long, quiet_wrote_by, InView, in_view, blind_of}
 
-module _ {V : Type 0} (S : Setting V) (L : Lawful S) (t : ℕ) (floor : ℕ → ℕ) (CellsOf : ℕ → ℕ → Cell V) (js : List (Committed V)) (B : Serial S t floor CellsOf js) (j : Committed V) where
+module _ {V : Type 0} (S : Setting V) (L : Lawful S) (t : ℕ) (floor : ℕ → ℕ) (cells_of : ℕ → ℕ → Cell V) (js : List (Committed V)) (B : Serial S t floor cells_of js) (j : Committed V) where
   parts : Split S j (placed S js)
   parts = split S j (placed S js) B.ordered
 
@@ -105,8 +105,8 @@ module _ {V : Type 0} (S : Setting V) (L : Lawful S) (t : ℕ) (floor : ℕ → 
     -- What j read: the newest version in its own class, and below what was written under its down number or less.
     abbrev pub ReadsRight : Type 0
     ReadsRight =
-        (m : Copy V) → ((i : ℕ) → Some (m j.class i) ≡ newest_value (CellsOf j.class i))
-        → ((d i : ℕ) (q : Time) → ¬ (j.class ≡ d) → dominates S j.class d ≡ true → j.job.below ≡ Some q → Some (m d i) ≡ value_at (base S j) (CellsOf d i))
+        (m : Copy V) → ((i : ℕ) → Some (m j.class i) ≡ newest_value (cells_of j.class i))
+        → ((d i : ℕ) (q : Time) → ¬ (j.class ≡ d) → dominates S j.class d ≡ true → j.job.below ≡ Some q → Some (m d i) ≡ value_at (base S j) (cells_of d i))
         → ReadsOfJob m j.job.operations
 
     module _ (rr : ReadsRight) where
@@ -204,13 +204,13 @@ module _ {V : Type 0} (S : Setting V) (L : Lawful S) (t : ℕ) (floor : ℕ → 
 
     module _ (rr : ReadsRight) (floor' : ℕ → ℕ) (cells_of' : ℕ → ℕ → Cell V)
         (fl : (c : ℕ) → c < S.classes → floor' c ≡ floor_of S c (j ∷ js))
-        (own : (i : ℕ) → cells_of' j.class i ≡ stored_pending (written i j.job.operations) (wrote_under S j) (CellsOf j.class i))
-        (oth : (d i : ℕ) → ¬ (j.class ≡ d) → cells_of' d i ≡ CellsOf d i) where
+        (own : (i : ℕ) → cells_of' j.class i ≡ stored_pending (written i j.job.operations) (wrote_under S j) (cells_of j.class i))
+        (oth : (d i : ℕ) → ¬ (j.class ≡ d) → cells_of' d i ≡ cells_of d i) where
       module _ (i : ℕ) where
-        cell_falls : Falls (CellsOf j.class i)
+        cell_falls : Falls (cells_of j.class i)
         cell_falls = B.falls j.class i n.known
 
-        cell_head : head (CellsOf j.class i) ≤ wrote_under S j
+        cell_head : head (cells_of j.class i) ≤ wrote_under S j
         cell_head = omega (arith, B.heads j.class i n.known, n.under)
 
         own_reads : (k : ℕ) → head (cells_of' j.class i) ≤ k + 2 → (q : Bool) → leb (wrote_under S j) k ≡ q
@@ -237,11 +237,11 @@ module _ {V : Type 0} (S : Setting V) (L : Lawful S) (t : ℕ) (floor : ℕ → 
       }
         where
           b_falls : (c i : ℕ) → c < S.classes → (q : Bool) → eqb j.class c ≡ q → Falls (cells_of' c i)
-          b_falls c i l true e = rw (← (eqb-true _ _ e), own i) (stored_falls (wrote_under S j) (CellsOf j.class i) (cell_falls i) (cell_head i) (written i j.job.operations))
+          b_falls c i l true e = rw (← (eqb-true _ _ e), own i) (stored_falls (wrote_under S j) (cells_of j.class i) (cell_falls i) (cell_head i) (written i j.job.operations))
           b_falls c i l false e = rw (oth c i (eqb-false _ _ e)) (B.falls c i l)
 
           b_heads : (c i : ℕ) → c < S.classes → (q : Bool) → eqb j.class c ≡ q → head (cells_of' c i) ≤ declared_at S (S.grade c) t + 1
-          b_heads c i l true e = rw (← (eqb-true _ _ e), own i, ← n.under) (stored_head (wrote_under S j) (CellsOf j.class i) (cell_falls i) (cell_head i) (written i j.job.operations))
+          b_heads c i l true e = rw (← (eqb-true _ _ e), own i, ← n.under) (stored_head (wrote_under S j) (cells_of j.class i) (cell_falls i) (cell_head i) (written i j.job.operations))
           b_heads c i l false e = rw (oth c i (eqb-false _ _ e)) (B.heads c i l)
 
           b_reads : (c i k : ℕ) → c < S.classes → head (cells_of' c i) ≤ k + 2 → (q : Bool) → eqb j.class c ≡ q
@@ -253,14 +253,14 @@ module _ {V : Type 0} (S : Setting V) (L : Lawful S) (t : ℕ) (floor : ℕ → 
           b_newests : (c i : ℕ) → c < S.classes → (q : Bool) → eqb j.class c ≡ q
               → newest_value (cells_of' c i) ≡ Some (after_jobs (start_copy S) (insert S j (placed S js)) c i)
           b_newests c i l true e =
-              rw (← (eqb-true j.class c e), own i, end_own i) (stored_newest (wrote_under S j) (CellsOf j.class i) (cell_falls i) (cell_head i) (written i j.job.operations) _ (B.newests j.class i n.known))
+              rw (← (eqb-true j.class c e), own i, end_own i) (stored_newest (wrote_under S j) (cells_of j.class i) (cell_falls i) (cell_head i) (written i j.job.operations) _ (B.newests j.class i n.known))
           b_newests c i l false e = rw (oth c i (eqb-false _ _ e), end_other c i (eqb-false _ _ e)) (B.newests c i l)
 
   -- One more long job.
   module _ (u : j.job.kind ≡ long) (g : WellPlaced S t (floor_of S j.class js) j) (young : declared_at S 0 t ≤ long_number S j + 1) where
     abbrev pub LongReadsRight : Type 0
     LongReadsRight =
-        (m : Copy V) → ((d i : ℕ) → dominates S j.class d ≡ true → Some (m d i) ≡ value_at (long_number S j) (CellsOf d i)) → ReadsOfJob m j.job.operations
+        (m : Copy V) → ((d i : ℕ) → dominates S j.class d ≡ true → Some (m d i) ≡ value_at (long_number S j) (cells_of d i)) → ReadsOfJob m j.job.operations
 
     unchanged : (m : Copy V) → after_operations m j.job.operations ≡ m
     unchanged m = fun_ext (λ d. fun_ext (λ i. after_none m d i j.job.operations (g.mute u)))
@@ -302,7 +302,7 @@ module _ {V : Type 0} (S : Setting V) (L : Lawful S) (t : ℕ) (floor : ℕ → 
         go true = refl
         go false = refl
 
-    pub serial_long : LongReadsRight → Serial S t floor CellsOf (j ∷ js)
+    pub serial_long : LongReadsRight → Serial S t floor cells_of (j ∷ js)
     serial_long rr = record {
       floors = λ c l. B.floors c l ∙ sym (floor_same c);
       floor_low = λ c l. rw (floor_same c) (B.floor_low c l);

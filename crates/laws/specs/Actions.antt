@@ -80,7 +80,7 @@ module _ {V : Type 0} (S : Setting V) where
   new_job t c long = reading (declared_for S t c)
 
   -- After t ticks, with Cells-of the cells of every class: class c, its state k, and the bay b.
-  module _ (t : ℕ) (CellsOf : ℕ → ℕ → Cell V) (c : ℕ) (k : Class V) (b : ℕ) where
+  module _ (t : ℕ) (cells_of : ℕ → ℕ → Cell V) (c : ℕ) (k : Class V) (b : ℕ) where
     -- Begin: a free bay is opened.
     abbrev pub begins_in : Kind → Bay V → Outcome V
     begins_in q free = answer done (with_bay k b (running (new_job t c q)))
@@ -89,11 +89,11 @@ module _ {V : Type 0} (S : Setting V) where
 
     -- Read: a long job reads every class at its long number r, and makes no claim.
     abbrev pub reads_long : ℕ → ℕ → ℕ → Outcome V
-    reads_long r d i = answer (got (or_start (value_at r (CellsOf d i)))) k
+    reads_long r d i = answer (got (or_start (value_at r (cells_of d i)))) k
 
     -- An update job reads lower classes at its down number a; its first such read gives it that number.
     abbrev pub reads_below : ℕ → ℕ → ℕ → List (Pending V) → Outcome V
-    reads_below a d i p = answer (got (or_start (value_at a (CellsOf d i)))) (with_bay k b (running (updating (Some a) p)))
+    reads_below a d i p = answer (got (or_start (value_at a (cells_of d i)))) (with_bay k b (running (updating (Some a) p)))
 
     -- In its own class it reads the newest version and claims it, unless it has itself a pending value there.
     abbrev pub reads_newest : ℕ → Outcome V

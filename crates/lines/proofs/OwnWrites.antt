@@ -17,7 +17,7 @@ use Rattle.lines.specs.Replies.{reply_bytes}
 other_bytes : {A : Type 0} (n : ℕ) (rest : List ℕ) → 0 < n → n ∷ rest ≡ 0 ∷ [] → A
 other_bytes n rest h e = let z : n ≡ 0 = cc in absurd (omega arith)
 
-module _ {V : Type 0} (v : ValueGhosts V) (S : Setting V) (t : ℕ) (CellsOf : ℕ → ℕ → Cell V) (c : ℕ) (k : Class V) (b i : ℕ) where
+module _ {V : Type 0} (v : ValueGhosts V) (S : Setting V) (t : ℕ) (cells_of : ℕ → ℕ → Cell V) (c : ℕ) (k : Class V) (b i : ℕ) where
   -- What an accepted write has done: there was a value and such an item, and the value is pending.
   pub record Written (w : Option V) (z : Outcome V) : Type 0 where
     pub value : V
@@ -25,38 +25,38 @@ module _ {V : Type 0} (v : ValueGhosts V) (S : Setting V) (t : ℕ) (CellsOf : �
     pub before : List (Pending V)
     pub came : w ≡ Some value
     pub is_item : ltb i (S.items c) ≡ true
-    pub outcome : z ≡ writes_pending S t CellsOf c k b down before i value
+    pub outcome : z ≡ writes_pending S t cells_of c k b down before i value
 
-  was_written : (w : Option V) (x : Bay V) → reply_bytes v (writes_in S t CellsOf c k b i w x).reply ≡ 0 ∷ [] → Written w (writes_in S t CellsOf c k b i w x)
+  was_written : (w : Option V) (x : Bay V) → reply_bytes v (writes_in S t cells_of c k b i w x).reply ≡ 0 ∷ [] → Written w (writes_in S t cells_of c k b i w x)
   was_written w free e = other_bytes 10 [] (omega arith) e
   was_written w closed e = other_bytes 11 [] (omega arith) e
   was_written w (running (reading r)) e = other_bytes 14 [] (omega arith) e
   was_written w (running (updating down p)) e = at_item (ltb i (S.items c)) refl w e
     where
-      at_claim : (is : ltb i (S.items c) ≡ true) (x : V) (a : Answer) → reply_bytes v (claimed a (writes_pending S t CellsOf c k b down p i x) k).reply ≡ 0 ∷ []
-          → Written (Some x) (claimed a (writes_pending S t CellsOf c k b down p i x) k)
+      at_claim : (is : ltb i (S.items c) ≡ true) (x : V) (a : Answer) → reply_bytes v (claimed a (writes_pending S t cells_of c k b down p i x) k).reply ≡ 0 ∷ []
+          → Written (Some x) (claimed a (writes_pending S t cells_of c k b down p i x) k)
       at_claim is x Yes f = record { value = x; down = down; before = p; came = refl; is_item = is; outcome = refl }
       at_claim is x (No y) f = other_bytes 17 (y ∷ []) (omega arith) f
 
-      at_room : (is : ltb i (S.items c) ≡ true) (x : V) (q : Bool) → no_room i p ≡ q → reply_bytes v (writes_value S t CellsOf c k b down p i (Some x)).reply ≡ 0 ∷ []
-          → Written (Some x) (writes_value S t CellsOf c k b down p i (Some x))
+      at_room : (is : ltb i (S.items c) ≡ true) (x : V) (q : Bool) → no_room i p ≡ q → reply_bytes v (writes_value S t cells_of c k b down p i (Some x)).reply ≡ 0 ∷ []
+          → Written (Some x) (writes_value S t cells_of c k b down p i (Some x))
       at_room is x true full f = other_bytes 16 [] (omega arith) (rw full at f)
       at_room is x false full f = rw full (at_claim is x (S.writing k.claims b i) (rw full at f))
 
-      at_value : (is : ltb i (S.items c) ≡ true) (u : Option V) → reply_bytes v (writes_value S t CellsOf c k b down p i u).reply ≡ 0 ∷ []
-          → Written u (writes_value S t CellsOf c k b down p i u)
+      at_value : (is : ltb i (S.items c) ≡ true) (u : Option V) → reply_bytes v (writes_value S t cells_of c k b down p i u).reply ≡ 0 ∷ []
+          → Written u (writes_value S t cells_of c k b down p i u)
       at_value is None f = other_bytes 15 [] (omega arith) f
       at_value is (Some x) f = at_room is x (no_room i p) refl f
 
-      at_item : (q : Bool) → ltb i (S.items c) ≡ q → (u : Option V) → reply_bytes v (writes_by S t CellsOf c k b (updating down p) i u).reply ≡ 0 ∷ []
-          → Written u (writes_by S t CellsOf c k b (updating down p) i u)
+      at_item : (q : Bool) → ltb i (S.items c) ≡ q → (u : Option V) → reply_bytes v (writes_by S t cells_of c k b (updating down p) i u).reply ≡ 0 ∷ []
+          → Written u (writes_by S t cells_of c k b (updating down p) i u)
       at_item false is u f = other_bytes 13 [] (omega arith) (rw is at f)
       at_item true is u f = rw is (at_value is u (rw is at f))
 
   -- In the class that this leaves, the job reads the value.
   pub reads_written : (w : Option V) (z : Outcome V) (h : Written w z) → dominates S c c ≡ true → (cells' : ℕ → ℕ → Cell V) → (perform S t cells' c z.next b (read c i)).reply ≡ got h.value
   reads_written w z h d cells' =
-      let k' : Class V = (writes_pending S t CellsOf c k b h.down h.before i h.value).next in
+      let k' : Class V = (writes_pending S t cells_of c k b h.down h.before i h.value).next in
       let found : find i (pend i h.value h.before) ≡ Some h.value = find_pend i i h.value h.before ∙ rw (eqb_same i) refl in
       let here : (perform S t cells' c k' b (read c i)).reply ≡ got h.value = rw (eqb_same b, d, h.is_item, eqb_same c, found) refl in
       subst (λ (o : Outcome V). (perform S t cells' c o.next b (read c i)).reply ≡ got h.value) (sym h.outcome) here

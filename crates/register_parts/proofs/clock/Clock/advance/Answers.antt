@@ -8,13 +8,11 @@ pub invariant_of-self : goal.invariant_of-self
 invariant_of-self c =
     let x = c.args.self.now in
     let turn : tick_grade x.top x.ticks < suc x.top = mod-lt x.ticks (omega arith) in
-    let within : tick_grade x.top x.ticks < length x.numbers = omega (arith, x.low) in (
-      x.low,
-      (
-        omega (arith, c.if-self-ge-LAST_TICK.false),
-        (subst (λ (table : List ℕ). (g : ℕ) → get_or table g 0 ≡ declared x.top g (x.ticks + 1)) (sym c.declare.ensures.state) (tick_table x.numbers x.top x.ticks c.next-next.result c.next-next.ensures.reply within x.counted), tt),
-      ),
-    )
+    let within : tick_grade x.top x.ticks < length x.numbers = omega (arith, x.low) in record {
+      low = x.low;
+      within = omega (arith, c.if-self-ge-LAST_TICK.false);
+      counted = subst (λ (table : List ℕ). (g : ℕ) → get_or table g 0 ≡ declared x.top g (x.ticks + 1)) (sym c.declare.ensures.state) (tick_table x.numbers x.top x.ticks c.next-next.result c.next-next.ensures.reply within x.counted);
+    }
 
 pub returns : goal.returns
 returns c =

@@ -43,10 +43,10 @@ returns-then-sum-gt-MOST_ITEMS_IN_ALL c =
 pub invariant_of-result : goal.invariant_of-result
 invariant_of-result c =
     let records = c.args.records.now in
-    let n = as_many records in (
-      table_small (said records) (omega arith) c.loop-class.items c.loop-class.class c.loop-class.sum c.loop-class.invariant (omega arith),
-      (table_sum (said records) (omega arith) c.loop-class.items c.loop-class.class c.loop-class.sum c.loop-class.invariant (omega arith) (omega arith), tt),
-    )
+    let n = as_many records in record {
+      few = table_small (said records) (omega arith) c.loop-class.items c.loop-class.class c.loop-class.sum c.loop-class.invariant (omega arith);
+      few_in_all = table_sum (said records) (omega arith) c.loop-class.items c.loop-class.class c.loop-class.sum c.loop-class.invariant (omega arith) (omega arith);
+    }
 
 pub returns : goal.returns
 returns c =
