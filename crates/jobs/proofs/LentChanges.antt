@@ -1,5 +1,6 @@
 -- Which places of lent memory a call has left as they were.
-use Rattle.std.proofs.Common.{◌≡◌, ℕ, ◌<◌, Bool, false, eqb, set, sym, refl, subst}
+use Rattle.std.proofs.Common.{◌≡◌, ℕ, ◌<◌, Bool, false, ◌&&◌, nat_lt, eqb, set, sym, refl, subst}
+use Rattle.std.proofs.Math.Bool.{and-false}
 use Rattle.std.proofs.lemmas.List.{length-set, get_or-set_other}
 use Rattle.std.proofs.lemmas.Bool.{eqb-false, lt-ltb}
 use Rattle.rules.specs.Claims.{Claims}
@@ -26,6 +27,10 @@ changed_at_most f g h z = record {
 -- Where there is the bay, a call for it may change all of the places.
 pub bay_names : (n c b : ℕ) (places : ℕ → Bool) → c < n → b < bay_count → NamesNoLess places (if_bay n c b places)
 bay_names n c b places l h k e = rw (lt-ltb c n l, lt-ltb b bay_count h) at e
+
+-- And it changes none but these.
+pub bay_names_only : (n c b : ℕ) (places : ℕ → Bool) → NamesNoLess (if_bay n c b places) places
+bay_names_only n c b places k e = rw e (and-false (nat_lt c n && nat_lt b bay_count))
 
 module _ {V R : Type 0} (at_cells at_pending : ℕ → Bool) (m : Memory V R) where
   pub nothing_changed : (at_rules : ℕ → Bool) → ChangedOnly at_cells at_pending at_rules m m

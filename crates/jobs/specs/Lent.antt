@@ -8,13 +8,13 @@ use Rattle.jobs.specs.declared.memory.Memory.{Memory}
 module _ {V R : Type 0} where
   -- The same memory with other cells, other pending values, or other rules: the lenders stay.
   abbrev pub with_cells : Memory V R → List (Cell V) → Memory V R
-  with_cells m cells = record { cells = record { ref_ptr = m.cells.ptr; ghost_name = m.cells.name; now = cells }; pending = m.pending; rules = m.rules }
+  with_cells m cells = record { cells = record { ref_ptr = m.cells.ref_ptr; ghost_name = m.cells.ghost_name; now = cells }; pending = m.pending; rules = m.rules }
 
   abbrev pub with_pending : Memory V R → List V → Memory V R
-  with_pending m pending = record { cells = m.cells; pending = record { ref_ptr = m.pending.ptr; ghost_name = m.pending.name; now = pending }; rules = m.rules }
+  with_pending m pending = record { cells = m.cells; pending = record { ref_ptr = m.pending.ref_ptr; ghost_name = m.pending.ghost_name; now = pending }; rules = m.rules }
 
   abbrev pub with_rules : Memory V R → List R → Memory V R
-  with_rules m rules = record { cells = m.cells; pending = m.pending; rules = record { ref_ptr = m.rules.ptr; ghost_name = m.rules.name; now = rules } }
+  with_rules m rules = record { cells = m.cells; pending = m.pending; rules = record { ref_ptr = m.rules.ref_ptr; ghost_name = m.rules.ghost_name; now = rules } }
 
   -- Only the rule of class c is another: it means claims.
   abbrev pub RuleBecomes : RuleGhosts R → ℕ → Claims → Memory V R → Memory V R → Type 0

@@ -7,7 +7,7 @@ use Rattle.diamond_register.proofs.session.session.Goals as goal
 pub returns : goal.returns
 returns g c =
     let o = g.O.ClassOrder in
-    let v = g.row.V-Value in
+    let v = g.V.Value in
     let r = g.R.LocalRule in
     let x = c.args.register.now in
     let m = c.args.memory.now in

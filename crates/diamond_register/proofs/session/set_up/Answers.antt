@@ -8,7 +8,7 @@ returns-in_err-fill g c =
     let made = c.in_ok-register.ensures in
     let refused = c.in_err-fill.ensures in
     rw (p.1, p.2) (record {
-      reply = not_filled g.O.ClassOrder g.row.V-Value g.R.LocalRule _ _ _ _ c.in_ok-register.register _ _ made.reply refused.reply refused.memory;
+      reply = not_filled g.O.ClassOrder g.V.Value g.R.LocalRule _ _ _ _ c.in_ok-register.register _ _ made.reply refused.reply refused.memory;
       laws = tt;
     })
 
@@ -16,14 +16,14 @@ pub returns-in_err-register : goal.returns-in_err-register
 returns-in_err-register g c =
     let p = err_from_is_err_and c.from_residual.result c.from_residual.ensures.1 in
     rw (p.1, p.2) (record {
-      reply = not_made g.O.ClassOrder g.row.V-Value g.R.LocalRule _ _ _ _ _ c.in_err-register.ensures.reply;
+      reply = not_made g.O.ClassOrder g.V.Value g.R.LocalRule _ _ _ _ _ c.in_err-register.ensures.reply;
       laws = tt;
     })
 
 pub returns : goal.returns
 returns g c =
     let o = g.O.ClassOrder in
-    let v = g.row.V-Value in
+    let v = g.V.Value in
     let r = g.R.LocalRule in
     let x = c.in_ok-register.register in
     let made = c.in_ok-register.ensures in

@@ -10,7 +10,7 @@ use Rattle.lines.proofs.job_lines.call_register.Goals as goal
 pub returns-in_err-write : goal.returns-in_err-write
 returns-in_err-write g c =
     let o = g.O.ClassOrder in
-    let v = g.row.V-Value in
+    let v = g.V.Value in
     let r = g.R.LocalRule in
     let x = c.args.register.now in
     let m = c.args.memory.now in
@@ -26,7 +26,7 @@ returns-in_err-write g c =
 pub returns-in_ok-write : goal.returns-in_ok-write
 returns-in_ok-write g c =
     let o = g.O.ClassOrder in
-    let v = g.row.V-Value in
+    let v = g.V.Value in
     let r = g.R.LocalRule in
     let x = c.args.register.now in
     let m = c.args.memory.now in
@@ -42,7 +42,7 @@ returns-in_ok-write g c =
 pub returns-in_err-commit : goal.returns-in_err-commit
 returns-in_err-commit g c =
     let o = g.O.ClassOrder in
-    let v = g.row.V-Value in
+    let v = g.V.Value in
     let r = g.R.LocalRule in
     let x = c.args.register.now in
     let m = c.args.memory.now in
@@ -58,7 +58,7 @@ returns-in_err-commit g c =
 pub returns-in_ok-commit : goal.returns-in_ok-commit
 returns-in_ok-commit g c =
     let o = g.O.ClassOrder in
-    let v = g.row.V-Value in
+    let v = g.V.Value in
     let r = g.R.LocalRule in
     let x = c.args.register.now in
     let m = c.args.memory.now in

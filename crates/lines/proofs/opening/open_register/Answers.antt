@@ -12,7 +12,7 @@ returns-in_err-fill g c =
     rw (e.1, e.2) (record {
       reply =
           done.reply
-          ∙ fill_reply_is g.O.ClassOrder g.row.V-Value g.R.LocalRule c.args.order (said c.args.records.now) c.args.variant
+          ∙ fill_reply_is g.O.ClassOrder g.V.Value g.R.LocalRule c.args.order (said c.args.records.now) c.args.variant
           c.in_ok-register.register c.requires c.in_ok-register.ensures.reply c.args.memory.now;
       state = done.memory;
     })
@@ -33,9 +33,9 @@ returns g c =
     record {
       reply =
           done.reply
-          ∙ fill_reply_is g.O.ClassOrder g.row.V-Value g.R.LocalRule c.args.order (said c.args.records.now) c.args.variant
+          ∙ fill_reply_is g.O.ClassOrder g.V.Value g.R.LocalRule c.args.order (said c.args.records.now) c.args.variant
           c.in_ok-register.register c.requires made.reply c.args.memory.now;
       state =
-          opened g.O.ClassOrder g.row.V-Value g.R.LocalRule c.args.order (said c.args.records.now) c.args.variant
+          opened g.O.ClassOrder g.V.Value g.R.LocalRule c.args.order (said c.args.records.now) c.args.variant
           c.in_ok-register.register c.requires made.reply c.args.memory.now c.fill.new.memory kept made.laws done.memory done.laws;
     }

@@ -6,6 +6,6 @@ use Rattle.jobs.proofs.memory.Memory.value_at.Goals as goal
 
 pub returns-in-Err : goal.returns-in-Err
 returns-in-Err g c =
-    let start = g.row.V-Value.starting in
+    let start = g.V.Value.starting in
     let e = no_cell c.args.place c.args.number (map versions c.args.self.now.cells.now) c.in-Err.field-0 c.in-Err.ensures.reply in
     record { reply = c.start-in-Err.ensures ∙ sym (ap (λ (z : Option g.row.V.Denot). or_else z start) e) }

@@ -18,6 +18,6 @@ returns g c =
     record {
       reply = done.reply;
       state = done.state;
-      laws = lawfully g.O.ClassOrder g.row.V-Value g.R.LocalRule kept c.args.self.now c.args.memory.now (to_begin c.args.class c.args.bay c.args.kind)
+      laws = lawfully g.O.ClassOrder g.V.Value g.R.LocalRule kept c.args.self.now c.args.memory.now (to_begin c.args.class c.args.bay c.args.kind)
           (done_reply c.begin_job.result) c.begin_job.new.self c.args.memory.now done.reply done.state;
     }

@@ -1,3 +1,6 @@
+use Rattle.std.proofs.Common.{eqb}
+use Rattle.jobs.proofs.LentChanges.{changed_at_most, bay_names_only}
+use Rattle.jobs.specs.OwnPlaces.{cells_of}
 use Rattle.jobs.specs.Faults.{done_reply}
 use Rattle.jobs.specs.Requests.{to_commit}
 use Rattle.jobs.proofs.CallLaws.{KeptLaws, lawfully}
@@ -18,7 +21,9 @@ returns g c =
     record {
       reply = done.reply;
       state = done.state;
-      memory = done.memory;
-      laws = lawfully g.O.ClassOrder g.row.V-Value g.R.LocalRule kept c.args.self.now c.args.memory.now (to_commit c.args.class c.args.bay)
+      memory = changed_at_most (bay_names_only _ c.args.class c.args.bay (cells_of c.args.self.now.counts.items c.args.class)) (λ k e. e)
+          (bay_names_only _ c.args.class c.args.bay (eqb c.args.class)) done.memory;
+      bay_memory = done.memory;
+      laws = lawfully g.O.ClassOrder g.V.Value g.R.LocalRule kept c.args.self.now c.args.memory.now (to_commit c.args.class c.args.bay)
           (done_reply c.commit_job.result) c.commit_job.new.self c.commit_job.new.memory done.reply done.state;
     }

@@ -13,25 +13,25 @@ first_cell-requires g c = omega (arith, c.classes-classes.ensures.reply, (g.met.
 
 pub fill_cells-requires : goal.fill_cells-requires
 fill_cells-requires g c =
-    let S = setting g.O.ClassOrder g.row.V-Value g.R.LocalRule c.args.self.now in
-    let h = room g.O.ClassOrder g.row.V-Value g.R.LocalRule c.args.self.now c.args.memory.now (sym c.if-not-has_enough.ensures.reply) in
+    let S = setting g.O.ClassOrder g.V.Value g.R.LocalRule c.args.self.now in
+    let h = room g.O.ClassOrder g.V.Value g.R.LocalRule c.args.self.now c.args.memory.now (sym c.if-not-has_enough.ensures.reply) in
     let n : c.first_cell.result ≡ sum_below S.classes S.items = c.first_cell.ensures.reply ∙ ap (λ n. sum_below n S.items) c.classes-classes.ensures.reply in
     omega (arith, h.cells)
 
 pub fill_pending-requires : goal.fill_pending-requires
 fill_pending-requires g c =
-    let h = room g.O.ClassOrder g.row.V-Value g.R.LocalRule c.args.self.now c.args.memory.now (sym c.if-not-has_enough.ensures.reply) in
+    let h = room g.O.ClassOrder g.V.Value g.R.LocalRule c.args.self.now c.args.memory.now (sym c.if-not-has_enough.ensures.reply) in
     omega (arith, h.pending, c.classes-classes.ensures.reply)
 
 pub fill_rules-requires : goal.fill_rules-requires
 fill_rules-requires g c =
-    let h = room g.O.ClassOrder g.row.V-Value g.R.LocalRule c.args.self.now c.args.memory.now (sym c.if-not-has_enough.ensures.reply) in
+    let h = room g.O.ClassOrder g.V.Value g.R.LocalRule c.args.self.now c.args.memory.now (sym c.if-not-has_enough.ensures.reply) in
     (omega (arith, h.rules, c.classes-classes.ensures.reply), ltb-true c.args.self.now.variant g.R.LocalRule.variants (sym c.if-not-has_variant.ensures))
 
 pub returns : goal.returns
 returns g c =
     let o = g.O.ClassOrder in
-    let v = g.row.V-Value in
+    let v = g.V.Value in
     let r = g.R.LocalRule in
     let x = c.args.self.now in
     let m = c.args.memory.now in
@@ -41,9 +41,9 @@ returns g c =
     let enough = sym c.if-not-has_enough.ensures.reply in
     let variant = sym c.if-not-has_variant.ensures in
     let filled : FreshMemory o v r x m (record {
-      cells = record { ref_ptr = m.cells.ptr; ghost_name = m.cells.name; now = c.fill_cells.new.cells };
-      pending = record { ref_ptr = m.pending.ptr; ghost_name = m.pending.name; now = c.fill_pending.new.pending };
-      rules = record { ref_ptr = m.rules.ptr; ghost_name = m.rules.name; now = c.fill_rules.new.rules };
+      cells = record { ref_ptr = m.cells.ref_ptr; ghost_name = m.cells.ghost_name; now = c.fill_cells.new.cells };
+      pending = record { ref_ptr = m.pending.ref_ptr; ghost_name = m.pending.ghost_name; now = c.fill_pending.new.pending };
+      rules = record { ref_ptr = m.rules.ref_ptr; ghost_name = m.rules.ghost_name; now = c.fill_rules.new.rules };
     }) = record {
       lenders = (refl, refl, refl);
       cells = overwritten_all (FreshCell v) m.cells.now c.fill_cells.new.cells c.first_cell.result (sum_below S.classes S.items) n c.fill_cells.ensures;

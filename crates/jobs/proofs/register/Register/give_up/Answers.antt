@@ -1,3 +1,5 @@
+use Rattle.std.proofs.Common.{eqb}
+use Rattle.jobs.proofs.LentChanges.{changed_at_most, bay_names_only}
 use Rattle.jobs.specs.Faults.{done_reply}
 use Rattle.jobs.specs.Requests.{to_give_up}
 use Rattle.jobs.proofs.CallLaws.{KeptLaws, lawfully}
@@ -18,7 +20,9 @@ returns g c =
     record {
       reply = done.reply;
       state = done.state;
-      memory = done.memory;
-      laws = lawfully g.O.ClassOrder g.row.V-Value g.R.LocalRule kept c.args.self.now c.args.memory.now (to_give_up c.args.class c.args.bay)
+      memory = changed_at_most (λ k e. e) (λ k e. e)
+          (bay_names_only _ c.args.class c.args.bay (eqb c.args.class)) done.memory;
+      bay_memory = done.memory;
+      laws = lawfully g.O.ClassOrder g.V.Value g.R.LocalRule kept c.args.self.now c.args.memory.now (to_give_up c.args.class c.args.bay)
           (done_reply c.give_up_job.result) c.give_up_job.new.self c.give_up_job.new.memory done.reply done.state;
     }

@@ -21,11 +21,11 @@ returns-in_err-job g c =
     let x = c.args.self.now in
     let m = c.args.memory.now in
     let p = err_from_is_err_and c.from_residual.result c.from_residual.ensures.1 in
-    let on = reads o g.row.V-Value g.R.LocalRule x m c.args.class c.args.bay c.args.other c.args.item in
-    let z = outside_job o g.row.V-Value g.R.LocalRule x m c.args.class c.args.bay (read c.args.other c.args.item)
+    let on = reads o g.V.Value g.R.LocalRule x m c.args.class c.args.bay c.args.other c.args.item in
+    let z = outside_job o g.V.Value g.R.LocalRule x m c.args.class c.args.bay (read c.args.other c.args.item)
     (ltb c.args.other c.classes.result) (ap (ltb c.args.other) c.classes.ensures.reply) (λ e. ap on e) (λ e. ap on e)
     c.in_err-job.field-0.0 c.in_err-job.ensures.reply in
-    let z = at_reply g.O.ClassOrder g.row.V-Value g.R.LocalRule c.args.self.now c.args.memory.now (by c.args.class c.args.bay (read c.args.other c.args.item)) c.args.self.now c.args.memory.now (ap read_reply (p.1 ∙ ap Err p.2)) z in
+    let z = at_reply g.O.ClassOrder g.V.Value g.R.LocalRule c.args.self.now c.args.memory.now (by c.args.class c.args.bay (read c.args.other c.args.item)) c.args.self.now c.args.memory.now (ap read_reply (p.1 ∙ ap Err p.2)) z in
     record { reply = z.0; state = z.1; memory = nothing_changed none none m _ }
 
 pub returns-then-item-self : goal.returns-then-item-self
@@ -33,10 +33,10 @@ returns-then-item-self g c =
     let o = g.O.ClassOrder in
     let x = c.args.self.now in
     let m = c.args.memory.now in
-    let h = through_job o g.row.V-Value g.R.LocalRule x m c.args.class c.args.bay (read c.args.other c.args.item)
+    let h = through_job o g.V.Value g.R.LocalRule x m c.args.class c.args.bay (read c.args.other c.args.item)
     (ltb c.args.other c.classes.result) (ap (ltb c.args.other) c.classes.ensures.reply) c.in_ok-job.job c.in_ok-job.ensures.reply in
     let e = sym c.if-not-dominates.ensures.reply in
-    let z = no_item o g.row.V-Value g.R.LocalRule x m c.args.class c.args.bay c.args.other c.args.item c.in_ok-job.job h e c.if-item-self.true in
+    let z = no_item o g.V.Value g.R.LocalRule x m c.args.class c.args.bay c.args.other c.args.item c.in_ok-job.job h e c.if-item-self.true in
     record { reply = z.0; state = z.1; memory = nothing_changed none none m _ }
 
 pub overflow_add-place : goal.overflow_add-place
@@ -47,15 +47,15 @@ returns-then-class-other g c =
     let o = g.O.ClassOrder in
     let x = c.args.self.now in
     let m = c.args.memory.now in
-    let h = through_job o g.row.V-Value g.R.LocalRule x m c.args.class c.args.bay (read c.args.other c.args.item)
+    let h = through_job o g.V.Value g.R.LocalRule x m c.args.class c.args.bay (read c.args.other c.args.item)
     (ltb c.args.other c.classes.result) (ap (ltb c.args.other) c.classes.ensures.reply) c.in_ok-job.job c.in_ok-job.ensures.reply in
     let e = sym c.if-not-dominates.ensures.reply in
     let few = (g.met.O.ClassOrder.few x.order).1 in
     let l : c.args.class < length x.classes = omega (arith, h.in_classes, few, c.set_bay.ensures.classes) in
     let n : c.args.bay < length (class_in x c.args.class).bays = omega (arith, h.in_bays, c.set_bay.ensures.bays) in
     let w = c.value_at-then-class-other.ensures.reply ∙ rw c.first_cell.ensures.reply in
-    let z = at_register o g.row.V-Value g.R.LocalRule x m (by c.args.class c.args.bay (read c.args.other c.args.item)) (got c.value_at-then-class-other.result) m c.set_bay.ensures.state
-    (below o g.row.V-Value g.R.LocalRule x m c.args.class c.args.bay c.args.other c.args.item c.in_ok-job.job h e c.if-item-self.false c.in-Update.job c.in-Update.is
+    let z = at_register o g.V.Value g.R.LocalRule x m (by c.args.class c.args.bay (read c.args.other c.args.item)) (got c.value_at-then-class-other.result) m c.set_bay.ensures.state
+    (below o g.V.Value g.R.LocalRule x m c.args.class c.args.bay c.args.other c.args.item c.in_ok-job.job h e c.if-item-self.false c.in-Update.job c.in-Update.is
     c.if-class-other.true l n c.down_number-down.result c.down_number-down.ensures.reply c.value_at-then-class-other.result w) in
     record { reply = z.0; state = z.1; memory = nothing_changed none none m _ }
 
@@ -64,54 +64,54 @@ returns-in-Some g c =
     let o = g.O.ClassOrder in
     let x = c.args.self.now in
     let m = c.args.memory.now in
-    let h = through_job o g.row.V-Value g.R.LocalRule x m c.args.class c.args.bay (read c.args.other c.args.item)
+    let h = through_job o g.V.Value g.R.LocalRule x m c.args.class c.args.bay (read c.args.other c.args.item)
     (ltb c.args.other c.classes.result) (ap (ltb c.args.other) c.classes.ensures.reply) c.in_ok-job.job c.in_ok-job.ensures.reply in
     let e = sym c.if-not-dominates.ensures.reply in
-    let z = own_pending o g.row.V-Value g.R.LocalRule x m c.args.class c.args.bay c.args.other c.args.item c.in_ok-job.job h e c.if-item-self.false c.in-Update.job c.in-Update.is
+    let z = own_pending o g.V.Value g.R.LocalRule x m c.args.class c.args.bay c.args.other c.args.item c.in_ok-job.job h e c.if-item-self.false c.in-Update.job c.in-Update.is
     c.if-class-other.false c.in-Some.value c.in-Some.ensures.reply in
     record { reply = z.0; state = z.1; memory = nothing_changed none none m _ }
 
-pub returns-in_err-claim_read : goal.returns-in_err-claim_read
-returns-in_err-claim_read g c =
+pub returns-in_err-claim_read-in-Update : goal.returns-in_err-claim_read-in-Update
+returns-in_err-claim_read-in-Update g c =
     let o = g.O.ClassOrder in
     let x = c.args.self.now in
     let m = c.args.memory.now in
-    let h = through_job o g.row.V-Value g.R.LocalRule x m c.args.class c.args.bay (read c.args.other c.args.item)
+    let h = through_job o g.V.Value g.R.LocalRule x m c.args.class c.args.bay (read c.args.other c.args.item)
     (ltb c.args.other c.classes.result) (ap (ltb c.args.other) c.classes.ensures.reply) c.in_ok-job.job c.in_ok-job.ensures.reply in
     let e = sym c.if-not-dominates.ensures.reply in
     let sixteen : length x.classes ≡ 16 = search rules in
     let few = (g.met.O.ClassOrder.few x.order).1 in
     let l : c.args.class < length x.classes = omega (arith, h.in_classes) in
     let in_items : c.args.item < 64 = omega (arith, c.if-item-self.false, x.counts.few c.args.other) in
-    let k = claims_here o g.row.V-Value g.R.LocalRule x m c.args.class c.args.bay in
-    let p = err_from_is_err_and c.from_residual-in_err-claim_read.result c.from_residual-in_err-claim_read.ensures.1 in
-    let d = claim_denied Read g.R.LocalRule.reading k c.args.bay c.args.item h.in_bays in_items c.in_err-claim_read.field-0.0 c.in_err-claim_read.ensures.reply in
-    let z = own_denied o g.row.V-Value g.R.LocalRule x m c.args.class c.args.bay c.args.other c.args.item c.in_ok-job.job h e c.if-item-self.false c.in-Update.job c.in-Update.is
+    let k = claims_here o g.V.Value g.R.LocalRule x m c.args.class c.args.bay in
+    let p = err_from_is_err_and c.from_residual-in_err-claim_read-in-Update.result c.from_residual-in_err-claim_read-in-Update.ensures.1 in
+    let d = claim_denied Read g.R.LocalRule.reading k c.args.bay c.args.item h.in_bays in_items c.in_err-claim_read-in-Update.field-0.0 c.in_err-claim_read-in-Update.ensures.reply in
+    let z = own_denied o g.V.Value g.R.LocalRule x m c.args.class c.args.bay c.args.other c.args.item c.in_ok-job.job h e c.if-item-self.false c.in-Update.job c.in-Update.is
     c.if-class-other.false c.in_default.ensures.reply l _ c.claim_read.new.self c.claim_read.ensures.memory d.0 d.1 d.3 in
-    let z = at_reply g.O.ClassOrder g.row.V-Value g.R.LocalRule c.args.self.now c.args.memory.now (by c.args.class c.args.bay (read c.args.other c.args.item)) c.args.self.now c.claim_read.new.self (ap read_reply (p.1 ∙ ap Err (p.2 ∙ ap fault_of_rule d.2))) z in
+    let z = at_reply g.O.ClassOrder g.V.Value g.R.LocalRule c.args.self.now c.args.memory.now (by c.args.class c.args.bay (read c.args.other c.args.item)) c.args.self.now c.claim_read.new.self (ap read_reply (p.1 ∙ ap Err (p.2 ∙ ap fault_of_rule d.2))) z in
     record {
       reply = z.0;
       state = z.1;
       memory = rule_becomes_changed none none m g.R.LocalRule _ c.args.class c.args.bay h.in_classes h.in_bays _ c.claim_read.new.self c.claim_read.ensures.memory;
     }
 
-pub returns-in_ok-claim_read : goal.returns-in_ok-claim_read
-returns-in_ok-claim_read g c =
+pub returns-in_ok-claim_read-in-Update : goal.returns-in_ok-claim_read-in-Update
+returns-in_ok-claim_read-in-Update g c =
     let o = g.O.ClassOrder in
     let x = c.args.self.now in
     let m = c.args.memory.now in
-    let h = through_job o g.row.V-Value g.R.LocalRule x m c.args.class c.args.bay (read c.args.other c.args.item)
+    let h = through_job o g.V.Value g.R.LocalRule x m c.args.class c.args.bay (read c.args.other c.args.item)
     (ltb c.args.other c.classes.result) (ap (ltb c.args.other) c.classes.ensures.reply) c.in_ok-job.job c.in_ok-job.ensures.reply in
     let e = sym c.if-not-dominates.ensures.reply in
     let sixteen : length x.classes ≡ 16 = search rules in
     let few = (g.met.O.ClassOrder.few x.order).1 in
     let l : c.args.class < length x.classes = omega (arith, h.in_classes) in
     let in_items : c.args.item < 64 = omega (arith, c.if-item-self.false, x.counts.few c.args.other) in
-    let k = claims_here o g.row.V-Value g.R.LocalRule x m c.args.class c.args.bay in
-    let d = claim_made Read g.R.LocalRule.reading k c.args.bay c.args.item h.in_bays in_items c.in_ok-claim_read.ensures.reply in
+    let k = claims_here o g.V.Value g.R.LocalRule x m c.args.class c.args.bay in
+    let d = claim_made Read g.R.LocalRule.reading k c.args.bay c.args.item h.in_bays in_items c.in_ok-claim_read-in-Update.ensures.reply in
     let cells = ap (λ (t : Memory g.row.V.Denot g.row.R.Denot). t.cells.now) c.claim_read.ensures.memory.1 in
     let w = c.newest_value.ensures.reply ∙ rw (c.first_cell.ensures.reply, cells) in
-    let z = own_claimed o g.row.V-Value g.R.LocalRule x m c.args.class c.args.bay c.args.other c.args.item c.in_ok-job.job h e c.if-item-self.false c.in-Update.job c.in-Update.is
+    let z = own_claimed o g.V.Value g.R.LocalRule x m c.args.class c.args.bay c.args.other c.args.item c.in_ok-job.job h e c.if-item-self.false c.in-Update.job c.in-Update.is
     c.if-class-other.false c.in_default.ensures.reply l _ c.claim_read.new.self c.claim_read.ensures.memory d.0 d.1 c.newest_value.result w in
     record {
       reply = z.0;
@@ -124,10 +124,10 @@ returns-then-not-dominates g c =
     let o = g.O.ClassOrder in
     let x = c.args.self.now in
     let m = c.args.memory.now in
-    let h = through_job o g.row.V-Value g.R.LocalRule x m c.args.class c.args.bay (read c.args.other c.args.item)
+    let h = through_job o g.V.Value g.R.LocalRule x m c.args.class c.args.bay (read c.args.other c.args.item)
     (ltb c.args.other c.classes.result) (ap (ltb c.args.other) c.classes.ensures.reply) c.in_ok-job.job c.in_ok-job.ensures.reply in
     let e = sym c.if-not-dominates.ensures.reply in
-    let z = not_below o g.row.V-Value g.R.LocalRule x m c.args.class c.args.bay c.args.other c.args.item c.in_ok-job.job h e in
+    let z = not_below o g.V.Value g.R.LocalRule x m c.args.class c.args.bay c.args.other c.args.item c.in_ok-job.job h e in
     record { reply = z.0; state = z.1; memory = nothing_changed none none m _ }
 
 pub returns-in-Long : goal.returns-in-Long
@@ -135,9 +135,9 @@ returns-in-Long g c =
     let o = g.O.ClassOrder in
     let x = c.args.self.now in
     let m = c.args.memory.now in
-    let h = through_job o g.row.V-Value g.R.LocalRule x m c.args.class c.args.bay (read c.args.other c.args.item)
+    let h = through_job o g.V.Value g.R.LocalRule x m c.args.class c.args.bay (read c.args.other c.args.item)
     (ltb c.args.other c.classes.result) (ap (ltb c.args.other) c.classes.ensures.reply) c.in_ok-job.job c.in_ok-job.ensures.reply in
     let e = sym c.if-not-dominates.ensures.reply in
     let w = c.value_at.ensures.reply ∙ rw c.first_cell.ensures.reply in
-    let z = at_long o g.row.V-Value g.R.LocalRule x m c.args.class c.args.bay c.args.other c.args.item c.in_ok-job.job h e c.if-item-self.false c.in-Long.number c.in-Long.is c.value_at.result w in
+    let z = at_long o g.V.Value g.R.LocalRule x m c.args.class c.args.bay c.args.other c.args.item c.in_ok-job.job h e c.if-item-self.false c.in-Long.number c.in-Long.is c.value_at.result w in
     record { reply = z.0; state = z.1; memory = nothing_changed none none m _ }

@@ -19,6 +19,6 @@ returns g c =
       reply = done.reply;
       state = done.state;
       memory = done.memory;
-      laws = lawfully g.O.ClassOrder g.row.V-Value g.R.LocalRule kept c.args.self.now c.args.memory.now to_tick
+      laws = lawfully g.O.ClassOrder g.V.Value g.R.LocalRule kept c.args.self.now c.args.memory.now to_tick
           (tick_reply c.tick_clock.result) c.tick_clock.new.self c.tick_clock.new.memory done.reply done.state;
     }

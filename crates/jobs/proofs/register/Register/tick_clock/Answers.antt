@@ -15,13 +15,13 @@ returns-in_err-tick g c =
     let a = stopped x.clock c.in_err-tick.field-0.0 c.in_err-tick.ensures.reply in
     let shows : Shows c.advance.new.self x.clock.top x.clock.ticks =
     (c.advance.ensures.state.0, c.advance.ensures.state.1 ∙ ap (λ (q : Bool). cond q (suc x.clock.ticks) x.clock.ticks) a.0) in
-    let e = at_end g.O.ClassOrder g.row.V-Value g.R.LocalRule x m (sym c.if-not-has_enough.ensures.reply) a.0 c.advance.new.self shows in
+    let e = at_end g.O.ClassOrder g.V.Value g.R.LocalRule x m (sym c.if-not-has_enough.ensures.reply) a.0 c.advance.new.self shows in
     record { reply = ap tick_reply (p.1 ∙ ap Err p.2) ∙ ap fault_reply a.1 ∙ e.0; state = e.1; memory = nothing_changed none none m _ }
 
 pub returns : goal.returns
 returns g c =
     let o = g.O.ClassOrder in
-    let v = g.row.V-Value in
+    let v = g.V.Value in
     let r = g.R.LocalRule in
     let x = c.args.self.now in
     let m = c.args.memory.now in

@@ -26,7 +26,7 @@ open_register-requires g c = plan_in_range c.args.self c.unwrap-order.result c.u
 pub returns-in_err-register : goal.returns-in_err-register
 returns-in_err-register g c =
     let p = c.args.self in
-    let v = g.row.V-Value in
+    let v = g.V.Value in
     let items = said (take (p.count - 0) p.records) in
     let S = set_up_with orders v rules c.unwrap-order.result items c.args.variant in
     let so = plan_setting p c.unwrap-order.result c.unwrap-order.ensures items (handed_on p) v c.args.variant in
@@ -42,7 +42,7 @@ returns-in_err-register g c =
 pub returns : goal.returns
 returns g c =
     let p = c.args.self in
-    let v = g.row.V-Value in
+    let v = g.V.Value in
     let items = said (take (p.count - 0) p.records) in
     let S = set_up_with orders v rules c.unwrap-order.result items c.args.variant in
     let so = plan_setting p c.unwrap-order.result c.unwrap-order.ensures items (handed_on p) v c.args.variant in

@@ -6,11 +6,11 @@ pub invariant_of-result : goal.invariant_of-result
 invariant_of-result g c =
     let v = g.met.V.Value in
     let short : 1 + c.size-end.result ≤ 7 = omega (arith, c.size-end.ensures, v.narrow.1) in
-    (seven_bytes c.size-end.result g.row.V-Value.width c.size-end.ensures v.narrow.1 (g.row.V-Value.encoding c.args.value) c.write.new.out (v.exact c.args.value) c.write.ensures.memory, (short, tt))
+    (seven_bytes c.size-end.result g.V.Value.width c.size-end.ensures v.narrow.1 (g.V.Value.encoding c.args.value) c.write.new.out (v.exact c.args.value) c.write.ensures.memory, (short, tt))
 
 pub returns : goal.returns
 returns g c =
     let v = g.met.V.Value in
     record {
-      reply = value_held c.size-end.result g.row.V-Value.width c.size-end.ensures v.narrow.1 (g.row.V-Value.encoding c.args.value) c.write.new.out (v.exact c.args.value) c.write.ensures.memory;
+      reply = value_held c.size-end.result g.V.Value.width c.size-end.ensures v.narrow.1 (g.V.Value.encoding c.args.value) c.write.new.out (v.exact c.args.value) c.write.ensures.memory;
     }

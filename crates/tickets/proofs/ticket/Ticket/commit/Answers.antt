@@ -6,7 +6,7 @@ use Rattle.tickets.proofs.ticket.Ticket.commit.Goals as goal
 pub returns : goal.returns
 returns g c =
     let t = c.args.self in
-    let e = commit_enough g.O.ClassOrder g.row.V-Value g.R.LocalRule c.args.register.now c.args.memory.now t.class t.bay c.commit-reply.result c.commit-reply.ensures.reply in
+    let e = commit_enough g.O.ClassOrder g.V.Value g.R.LocalRule c.args.register.now c.args.memory.now t.class t.bay c.commit-reply.result c.commit-reply.ensures.reply in
     record {
       reply = search rules;
       state = c.commit-reply.ensures.state;
