@@ -10,7 +10,7 @@ returns g c =
     record {
       reply = search rules;
       state = c.give_up-reply.ensures.state;
-      memory = c.give_up-reply.ensures.memory;
+      memory = c.give_up-reply.ensures.bay_memory;
       laws = search rules;
       ticket = c.hand_in.ensures.ticket ∙ ap (λ (enough : Bool). handed_back enough t) e;
     }
