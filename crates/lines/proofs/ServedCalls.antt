@@ -33,6 +33,11 @@ module _ {O V R : Type 0} (o : OrderGhosts O) (v : ValueGhosts V) (r : RuleGhost
   abbrev pub Serves : Request V → List ℕ → Register O → Memory V R → Type 0
   Serves q bytes x' m' = (bytes ≡ reply_bytes v (defined o v r x m q).reply) × LeadsTo o v r x m q x' m'
 
+  -- A job frame of this operation leads where the call does that it asks for.
+  pub frame_leads : (job operation : JobOperation) (frame : List ℕ) → job ≡ operation → (x' : Register O) (m' : Memory V R)
+      → LeadsTo o v r x m (request_of v operation frame) x' m' → LeadsTo o v r x m (request_of v job frame) x' m'
+  frame_leads job operation frame is x' m' leads = subst (λ (j : JobOperation). LeadsTo o v r x m (request_of v j frame) x' m') (sym is) leads
+
   module _ (q q' : Request V) (asks : q' ≡ q) (x' : Register O) (m' : Memory V R) (leads : LeadsTo o v r x m q x' m') where
     -- A call that is accepted, and has nothing more to tell.
     pub serves_done : (y : ReplyBytes) → held_bytes y ≡ 0 ∷ [] → done ≡ (defined o v r x m q).reply → Serves q' (held_bytes y) x' m'

@@ -6,15 +6,15 @@ use Rattle.lines.specs.LineFaults.{fault_of_order}
 use Rattle.lines.proofs.FirstClasses.{first_drawn}
 use Rattle.lines.proofs.plan_order.first_class.Goals as goal
 
-pub returns-in_err-order : goal.returns-in_err-order
-returns-in_err-order c =
+pub returns-in_err-order-in-Drawn : goal.returns-in_err-order-in-Drawn
+returns-in_err-order-in-Drawn c =
     let p = err_from_is_err_and c.from_residual.result c.from_residual.ensures.1 in
     let m = c.class_set.result in
     let fits : m < 2 ^ 64 = omega (arith, c.class_set.ensures.reply) in
-    record { reply = rw (p.1, p.2, c.in-Drawn.is) (ap (result_map_both drawn fault_of_order) c.in_err-order.ensures ∙ first_drawn c.args.high c.args.low m c.class_set.ensures.reply fits) }
+    record { reply = rw (p.1, p.2, c.in-Drawn.is) (ap (result_map_both drawn fault_of_order) c.in_err-order-in-Drawn.ensures ∙ first_drawn c.args.high c.args.low m c.class_set.ensures.reply fits) }
 
-pub returns-in_ok-order : goal.returns-in_ok-order
-returns-in_ok-order c =
+pub returns-in_ok-order-in-Drawn : goal.returns-in_ok-order-in-Drawn
+returns-in_ok-order-in-Drawn c =
     let m = c.class_set.result in
     let fits : m < 2 ^ 64 = omega (arith, c.class_set.ensures.reply) in
-    record { reply = rw c.in-Drawn.is (ap (result_map_both drawn fault_of_order) c.in_ok-order.ensures ∙ first_drawn c.args.high c.args.low m c.class_set.ensures.reply fits) }
+    record { reply = rw c.in-Drawn.is (ap (result_map_both drawn fault_of_order) c.in_ok-order-in-Drawn.ensures ∙ first_drawn c.args.high c.args.low m c.class_set.ensures.reply fits) }

@@ -43,22 +43,15 @@ invariant_of-result c =
     let counts = counts_with p class c.args.high c.args.low c.args.items in
     let more = one_class_more (classes_so_far p.kind p.order) c.args.high c.args.low (classes_in c.in_ok-order.order) c.in_ok-order.ensures.reply in
     let few_items = still_few_items p class c.args.high c.args.low c.args.items next c.requires (class + 1 - 0) n table checked in
-    let few_in_all = still_few_in_all p class c.args.high c.args.low c.args.items next c.requires (class + 1 - 0) n table checked in (
-      length-set p.records class (record { items = c.args.items }) ∙ p.full,
-      (
-        p.some,
-        (
-          p.few,
-          (
-            omega arith,
-            (
-              more ∙ ap (λ k. k + 1) (p.ordered ∙ sym next),
-              (subst (λ (k : ℕ). each_at_most 64 (counts k) ≡ true) n few_items, (subst (λ (k : ℕ). sum (counts k) ≤ 256) n few_in_all, tt)),
-            ),
-          ),
-        ),
-      ),
-    )
+    let few_in_all = still_few_in_all p class c.args.high c.args.low c.args.items next c.requires (class + 1 - 0) n table checked in record {
+      full = length-set p.records class (record { items = c.args.items }) ∙ p.full;
+      some = p.some;
+      few = p.few;
+      so_far = omega arith;
+      ordered = more ∙ ap (λ k. k + 1) (p.ordered ∙ sym next);
+      few_items = subst (λ (k : ℕ). each_at_most 64 (counts k) ≡ true) n few_items;
+      few_in_all = subst (λ (k : ℕ). sum (counts k) ≤ 256) n few_in_all;
+    }
 
 pub returns : goal.returns
 returns c =

@@ -6,7 +6,7 @@ pub invariant_of-result : goal.invariant_of-result
 invariant_of-result g c =
     let v = g.met.V.Value in
     let short : 1 + c.size-end.result ≤ 7 = omega (arith, c.size-end.ensures, v.narrow.1) in
-    (seven_bytes c.size-end.result g.V.Value.width c.size-end.ensures v.narrow.1 (g.V.Value.encoding c.args.value) c.write.new.out (v.exact c.args.value) c.write.ensures.memory, (short, tt))
+    record { full = seven_bytes c.size-end.result g.V.Value.width c.size-end.ensures v.narrow.1 (g.V.Value.encoding c.args.value) c.write.new.out (v.exact c.args.value) c.write.ensures.memory; short = short }
 
 pub returns : goal.returns
 returns g c =

@@ -14,24 +14,24 @@ use Rattle.lines.proofs.MeetingAnswers.{Meets}
 use Rattle.lines.proofs.SessionPhases.{leaves_so}
 use Rattle.lines.proofs.SessionStart.{words_refused, slips_refused, words_accepted, slips_accepted}
 use Rattle.lines.proofs.session.Session.open.Goals as goal
-use Rattle.lines.proofs.session.Session.open.Goals.{in-Words+in-ok-register, in-Slips+in-ok-register-2}
+use Rattle.lines.proofs.session.Session.open.Goals.{in-Words+in_ok-register-in-Words, in-Slips+in_ok-register-in-Slips}
 
-pub returns-in_err-register : goal.returns-in_err-register
-returns-in_err-register c =
+pub returns-in_err-register-in-Words : goal.returns-in_err-register-in-Words
+returns-in_err-register-in-Words c =
     let s = c.args.self.now in
     let m = c.args.supplied.now in
     let p = err_from_is_err_and c.from_residual.result c.from_residual.ensures.1 in
-    let z = words_refused s m c.requires.0 c.in-Words.is c.args.variant c.in_err-register.field-0.0 c.open.new.memory
-    c.in_err-register.ensures.reply c.in_err-register.ensures.state in
+    let z = words_refused s m c.requires.0 c.in-Words.is c.args.variant c.in_err-register-in-Words.field-0.0 c.open.new.memory
+    c.in_err-register-in-Words.ensures.reply c.in_err-register-in-Words.ensures.state in
     record { reply = ap told (p.1 ∙ ap Err p.2) ∙ z.reply; leaves = leaves_so s m s (record { words = c.open.new.memory; slips = m.slips }) z }
 
-pub returns-in_err-register-2 : goal.returns-in_err-register-2
-returns-in_err-register-2 c =
+pub returns-in_err-register-in-Slips : goal.returns-in_err-register-in-Slips
+returns-in_err-register-in-Slips c =
     let s = c.args.self.now in
     let m = c.args.supplied.now in
-    let p = err_from_is_err_and c.from_residual-in_err-register-2.result c.from_residual-in_err-register-2.ensures.1 in
-    let z = slips_refused s m c.requires.0 c.in-Slips.is c.args.variant c.in_err-register-2.field-0.0 c.open-in-Slips.new.memory
-    c.in_err-register-2.ensures.reply c.in_err-register-2.ensures.state in
+    let p = err_from_is_err_and c.from_residual-in_err-register-in-Slips.result c.from_residual-in_err-register-in-Slips.ensures.1 in
+    let z = slips_refused s m c.requires.0 c.in-Slips.is c.args.variant c.in_err-register-in-Slips.field-0.0 c.open-in-Slips.new.memory
+    c.in_err-register-in-Slips.ensures.reply c.in_err-register-in-Slips.ensures.state in
     record { reply = ap told (p.1 ∙ ap Err p.2) ∙ z.reply; leaves = leaves_so s m s (record { words = m.words; slips = c.open-in-Slips.new.memory }) z }
 
 -- Where the two kinds meet again: the register x and the memory m' are those of one of them.
@@ -55,11 +55,11 @@ returns c =
     let met : Meets (phase_of s m) m (start_answer (rooms_of m) (draft_of s.plan) c.args.variant) (Ok c.done.result)
     (phase_of (record { stage = Serving; plan = s.plan; register = c.match-self.register }) c.match-self.supplied) c.match-self.supplied =
     elim c.match-self.branch [
-      | in-Words+in-ok-register w ↦ opened c _ _ w.register-is w.supplied-is
-          (words_accepted s m c.requires.0 c.args.variant c.done.result c.done.ensures.reply w.in_ok-register.register w.in-Words.is w.open.new.memory
-          w.in_ok-register.ensures.reply w.in_ok-register.ensures.state)
-      | in-Slips+in-ok-register-2 w ↦ opened c _ _ w.register-is w.supplied-is
-          (slips_accepted s m c.requires.0 c.args.variant c.done.result c.done.ensures.reply w.in_ok-register-2.register w.in-Slips.is w.open-in-Slips.new.memory
-          w.in_ok-register-2.ensures.reply w.in_ok-register-2.ensures.state)
+      | in-Words+in_ok-register-in-Words w ↦ opened c _ _ w.register-is w.supplied-is
+          (words_accepted s m c.requires.0 c.args.variant c.done.result c.done.ensures.reply w.in_ok-register-in-Words.register w.in-Words.is w.open.new.memory
+          w.in_ok-register-in-Words.ensures.reply w.in_ok-register-in-Words.ensures.state)
+      | in-Slips+in_ok-register-in-Slips w ↦ opened c _ _ w.register-is w.supplied-is
+          (slips_accepted s m c.requires.0 c.args.variant c.done.result c.done.ensures.reply w.in_ok-register-in-Slips.register w.in-Slips.is w.open-in-Slips.new.memory
+          w.in_ok-register-in-Slips.ensures.reply w.in_ok-register-in-Slips.ensures.state)
     ] in
     record { reply = met.reply; leaves = leaves_so s m (record { stage = Serving; plan = s.plan; register = c.match-self.register }) c.match-self.supplied met }
