@@ -1,6 +1,6 @@
 -- A read serves the version with the greatest number not above the one asked for, since the numbers fall.
 use Rattle.std.proofs.Common.{◌≡◌, ℕ, suc, ◌<◌, ◌≤◌, true, cond, ltb, leb, List, [], ◌∷◌, Some, None, Option, refl, ap, arith}
-use Rattle.std.specs.List.{ContainsAt as Has, AllByRecursion as All}
+use Rattle.std.specs.List.{ContainsAt, AllByRecursion}
 use Rattle.std.proofs.ByRecursion.{All-weaker}
 use Rattle.std.proofs.lemmas.Bool.{ltb-true, leb-true, leb-false, le-leb, lt-leb, and_parts, cond_both}
 use Rattle.cells.specs.Versions.{read_at, falling}
@@ -8,10 +8,10 @@ use Rattle.cells.specs.Laws.{Serves}
 use Rattle.cells.specs.declared.version.Version.{Version}
 
 module _ {V : Type 0} where
-  has_first : (x : Version V) (older : List (Version V)) → Has (x ∷ older) x
+  has_first : (x : Version V) (older : List (Version V)) → ContainsAt (x ∷ older) x
   has_first x older = (0, omega arith, λ d. refl)
 
-  has_later : (x y : Version V) (older : List (Version V)) → Has older y → Has (x ∷ older) y
+  has_later : (x y : Version V) (older : List (Version V)) → ContainsAt older y → ContainsAt (x ∷ older) y
   has_later x y older h = (suc h.0, omega (arith, h.1), h.2)
 
   pub older_fall : (x : Version V) (older : List (Version V)) → falling (x ∷ older) ≡ true → falling older ≡ true
@@ -21,13 +21,13 @@ module _ {V : Type 0} where
   pub second_below : (x y : Version V) (older : List (Version V)) → falling (x ∷ y ∷ older) ≡ true → y.number < x.number
   second_below x y older f = ltb-true y.number x.number (and_parts (ltb y.number x.number) (falling (y ∷ older)) f).0
 
-  older_below : (x : Version V) (older : List (Version V)) → falling (x ∷ older) ≡ true → All (λ y. y.number < x.number) older
+  older_below : (x : Version V) (older : List (Version V)) → falling (x ∷ older) ≡ true → AllByRecursion (λ y. y.number < x.number) older
   older_below x [] f = tt
   older_below x (y ∷ older) f =
       let below = second_below x y older f in
       (below, All-weaker (λ z. z.number < y.number) (λ z. z.number < x.number) (λ z h. omega arith) older (older_below y older (older_fall x (y ∷ older) f)))
 
-  pub newest_greatest : (x : Version V) (older : List (Version V)) → falling (x ∷ older) ≡ true → Has (x ∷ older) x × All (λ y. y.number ≤ x.number) (x ∷ older)
+  pub newest_greatest : (x : Version V) (older : List (Version V)) → falling (x ∷ older) ≡ true → ContainsAt (x ∷ older) x × AllByRecursion (λ y. y.number ≤ x.number) (x ∷ older)
   newest_greatest x older f =
       (has_first x older, (omega arith, All-weaker (λ y. y.number < x.number) (λ y. y.number ≤ x.number) (λ y h. omega arith) older (older_below x older f)))
 

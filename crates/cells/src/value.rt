@@ -1,6 +1,6 @@
 // A kind of value: how many bytes it takes, where an item of it starts, and how it is read from bytes and written to them.
 ghost use Rattle.std.specs.Prelude.{◌≡◌, ℕ, ◌<◌, ◌≤◌, List, length, if◌then◌else◌, Some as Just, Option as Maybe, ◌==◌, nat_eq};
-ghost use Rattle.std.specs.List.{AllByRecursion as All};
+ghost use Rattle.std.specs.List.{AllByRecursion};
 
 pub trait Value: Copy {
     // The number of bytes that a value takes.
@@ -41,5 +41,5 @@ pub trait Value: Copy {
     ghost decodes: { (x : Self) → decoding (encoding x) ≡ Just x };
 
     // Bytes that are accepted, read and written are the same. A byte is a number below 256.
-    ghost encodes: { (bytes : List ℕ) (x : Self) → All (λ b. b < 256) bytes → decoding bytes ≡ Just x → encoding x ≡ bytes };
+    ghost encodes: { (bytes : List ℕ) (x : Self) → AllByRecursion (λ b. b < 256) bytes → decoding bytes ≡ Just x → encoding x ≡ bytes };
 }

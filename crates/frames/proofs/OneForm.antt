@@ -1,7 +1,7 @@
 -- Reading and writing have one form: what is written is read back as the same bytes, and what is read is written again as the same digits.
 use Rattle.std.proofs.Common.{◌≡◌, ℕ, ◌+◌, ◌*◌, ◌<◌, ◌≤◌, Bool, true, false, List, [], ◌∷◌, length, Some, None, Option, sym, refl, ap, ◌∙◌, ⊎_elim, arith}
 use Rattle.std.proofs.lemmas.Bool.{cases_Bool}
-use Rattle.std.specs.List.{AllByRecursion as All}
+use Rattle.std.specs.List.{AllByRecursion}
 use Rattle.frames.specs.Digits.{byte_of, digits}
 use Rattle.frames.specs.Decoding.{with_byte, pairs, line_length, decoded}
 use Rattle.frames.specs.FrameSize.{FitsFrame}
@@ -10,7 +10,7 @@ use Rattle.frames.proofs.DigitValues.{byte_of_digits, DigitsOf, digits_of_byte, 
 use Rattle.frames.proofs.Reading.{decoded_pairs, decoded_malformed, line_length_true, line_length_from}
 
 -- What is written is read back.
-pairs_of_digits : (bytes : List ℕ) → All (λ b. b < 256) bytes → pairs (digits bytes) ≡ Some bytes
+pairs_of_digits : (bytes : List ℕ) → AllByRecursion (λ b. b < 256) bytes → pairs (digits bytes) ≡ Some bytes
 pairs_of_digits [] bounded = refl
 pairs_of_digits (b ∷ bytes) bounded = rw (byte_of_digits b bounded.0, pairs_of_digits bytes bounded.1)
 
@@ -25,7 +25,7 @@ decoded_of_digits bytes fits =
 -- The bytes of a text of paired digits: its digits are theirs, and they are bytes, half as many.
 record Bytes_of (text bytes : List ℕ) : Type 0 where
   same_digits : digits bytes ≡ text
-  bounded : All (λ b. b < 256) bytes
+  bounded : AllByRecursion (λ b. b < 256) bytes
   half : 2 * length bytes ≡ length text
 
 bytes_of_pairs : (text bytes : List ℕ) → pairs text ≡ Some bytes → Bytes_of text bytes

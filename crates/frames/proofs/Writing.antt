@@ -1,6 +1,6 @@
 -- What a loop has written of a line over the front of memory, and what the line that it ends with promises.
 use Rattle.std.proofs.Common.{◌≡◌, ℕ, ◌+◌, ◌*◌, ◌/◌, ◌%◌, ◌<◌, ◌≤◌, List, [], ◌∷◌, ◌++◌, length, get_or, take, drop, set, sym, refl, ap, ◌∙◌, arith}
-use Rattle.std.specs.List.{AllByRecursion as All}
+use Rattle.std.specs.List.{AllByRecursion}
 use Rattle.std.proofs.lemmas.List.{append_assoc, drop_more, drop_at, take_more, take_all, set_at, length_push, length-take-le}
 use Rattle.frames.specs.Digits.{high_digit, low_digit, digits}
 use Rattle.frames.specs.Writing.{encoded_line, line_size}
@@ -55,7 +55,7 @@ digits_no_newline [] = tt
 digits_no_newline (b ∷ bytes) = (digit_no_newline (b / 16), (digit_no_newline (b % 16), digits_no_newline bytes))
 
 -- What was written keeps its law.
-pub reads_back : (bytes memory : List ℕ) → All (λ b. b < 256) bytes → ReadsBack bytes (encoded_line bytes ++ memory) (line_size bytes)
+pub reads_back : (bytes memory : List ℕ) → AllByRecursion (λ b. b < 256) bytes → ReadsBack bytes (encoded_line bytes ++ memory) (line_size bytes)
 reads_back bytes memory bounded =
     let n = length_digits bytes in
     let p = length_push (digits bytes) 10 in

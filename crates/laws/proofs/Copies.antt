@@ -1,6 +1,6 @@
 -- What operations and jobs do to the copy.
 use Rattle.std.proofs.Common.{◌≡◌, ℕ, Bool, true, false, List, [], ◌∷◌, ◌++◌, None, filter, sym, refl, ap, ◌∙◌}
-use Rattle.std.specs.List.{AllByRecursion as All}
+use Rattle.std.specs.List.{AllByRecursion}
 use Rattle.std.proofs.lemmas.Bool.{ne_eqb}
 use Rattle.laws.specs.State.{or_else}
 use Rattle.laws.specs.Transactions.{Operation, Committed, read_of, write_of}
@@ -8,20 +8,20 @@ use Rattle.laws.specs.OneCopy.{Copy, last_write, after_operations, ReadsOfJob, a
 use Rattle.laws.proofs.Tests.{eqb_same, eqb_turn}
 use Rattle.laws.proofs.Bays.{written, WritesTo, WritesNone}
 
-pub all_both : {A : Type 0} (P Q R : A → Type 0) → ((x : A) → P x → Q x → R x) → (xs : List A) → All P xs → All Q xs → All R xs
+pub all_both : {A : Type 0} (P Q R : A → Type 0) → ((x : A) → P x → Q x → R x) → (xs : List A) → AllByRecursion P xs → AllByRecursion Q xs → AllByRecursion R xs
 all_both P Q R f [] a b = tt
 all_both P Q R f (x ∷ xs) a b = (f x a.0 b.0, all_both P Q R f xs a.1 b.1)
 
-pub all_left : {A : Type 0} (P : A → Type 0) (xs ys : List A) → All P (xs ++ ys) → All P xs
+pub all_left : {A : Type 0} (P : A → Type 0) (xs ys : List A) → AllByRecursion P (xs ++ ys) → AllByRecursion P xs
 all_left P [] ys a = tt
 all_left P (x ∷ xs) ys a = (a.0, all_left P xs ys a.1)
 
-pub all_right : {A : Type 0} (P : A → Type 0) (xs ys : List A) → All P (xs ++ ys) → All P ys
+pub all_right : {A : Type 0} (P : A → Type 0) (xs ys : List A) → AllByRecursion P (xs ++ ys) → AllByRecursion P ys
 all_right P [] ys a = a
 all_right P (x ∷ xs) ys a = all_right P xs ys a.1
 
 module _ {A : Type 0} (p : A → Bool) where
-  pub kept_by_none : (xs : List A) → All (λ x. p x ≡ false) xs → filter p xs ≡ []
+  pub kept_by_none : (xs : List A) → AllByRecursion (λ x. p x ≡ false) xs → filter p xs ≡ []
   kept_by_none [] a = refl
   kept_by_none (x ∷ xs) a = rw (a.0, kept_by_none xs a.1)
 
@@ -71,12 +71,12 @@ module _ {V : Type 0} where
   abbrev pub Quiet : ℕ → Committed V → Type 0
   Quiet d x = (m : Copy V) (i : ℕ) → after_operations m x.job.operations d i ≡ m d i
 
-  pub jobs_quiet : (m : Copy V) (xs : List (Committed V)) (d i : ℕ) → All (Quiet d) xs → after_jobs m xs d i ≡ m d i
+  pub jobs_quiet : (m : Copy V) (xs : List (Committed V)) (d i : ℕ) → AllByRecursion (Quiet d) xs → after_jobs m xs d i ≡ m d i
   jobs_quiet m [] d i a = refl
   jobs_quiet m (x ∷ xs) d i a = jobs_quiet (after_operations m x.job.operations) xs d i a.1 ∙ a.0 m i
 
   -- Leaving out quiet jobs changes nothing.
-  pub jobs_keep : (m : Copy V) (p : Committed V → Bool) (xs : List (Committed V)) (d i : ℕ) → All (λ x. p x ≡ false → Quiet d x) xs
+  pub jobs_keep : (m : Copy V) (p : Committed V → Bool) (xs : List (Committed V)) (d i : ℕ) → AllByRecursion (λ x. p x ≡ false → Quiet d x) xs
       → after_jobs m (filter p xs) d i ≡ after_jobs m xs d i
   jobs_keep m p [] d i a = refl
   jobs_keep m p (x ∷ xs) d i a = go (p x) refl (λ m. jobs_keep m p xs d i a.1)
@@ -112,7 +112,7 @@ module _ {V : Type 0} where
   blind_operations c m m' (read_of d i v ∷ os) e b t = (t.0 ∙ after_same m m' os d i (e d i b.0), blind_operations c m m' os e b.1 t.1)
   blind_operations c m m' (write_of d i v ∷ os) e b t = blind_operations c m m' os e b t
 
-  pub blind_jobs : (c : ℕ) (m m' : Copy V) (xs : List (Committed V)) → Alike c m m' → All (λ x. Blind c x.job.operations) xs → ReadsOfCopy m xs → ReadsOfCopy m' xs
+  pub blind_jobs : (c : ℕ) (m m' : Copy V) (xs : List (Committed V)) → Alike c m m' → AllByRecursion (λ x. Blind c x.job.operations) xs → ReadsOfCopy m xs → ReadsOfCopy m' xs
   blind_jobs c m m' [] e b t = tt
   blind_jobs c m m' (x ∷ xs) e b t =
       let os = x.job.operations in (

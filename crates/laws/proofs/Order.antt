@@ -1,6 +1,6 @@
 -- The serialization order is an order, and insertion keeps it.
 use Rattle.std.proofs.Common.{◌≡◌, ℕ, ◌<◌, ◌≤◌, Bool, true, false, eqb, ltb, List, [], ◌∷◌, ◌++◌, sym, refl, ap, arith}
-use Rattle.std.specs.List.{AllByRecursion as All}
+use Rattle.std.specs.List.{AllByRecursion}
 use Rattle.std.proofs.lemmas.Bool.{ltb-true, ltb-false, eqb-true, eqb-false, le-ltb}
 use Rattle.std.proofs.ByRecursion.{All-weaker}
 use Rattle.laws.specs.Setting.{Setting}
@@ -87,8 +87,8 @@ module _ {V : Type 0} (S : Setting V) where
     pub post : List (Committed V)
     pub whole : xs ≡ pre ++ post
     pub inserted : insert S j xs ≡ pre ++ (j ∷ post)
-    pub left : All (λ k. precedes S j k ≡ false) pre
-    pub right : All (λ k. precedes S j k ≡ true) post
+    pub left : AllByRecursion (λ k. precedes S j k ≡ false) pre
+    pub right : AllByRecursion (λ k. precedes S j k ≡ true) post
 
   pub split : (j : Committed V) (xs : List (Committed V)) → Ordered S xs → Split j xs
   split j [] s = record { pre = []; post = []; whole = refl; inserted = refl; left = tt; right = tt }
@@ -112,11 +112,11 @@ module _ {V : Type 0} (S : Setting V) where
         right = ih.right;
       }
 
-  pub all_insert : (P : Committed V → Type 0) (j : Committed V) (xs : List (Committed V)) → P j → All P xs → All P (insert S j xs)
+  pub all_insert : (P : Committed V → Type 0) (j : Committed V) (xs : List (Committed V)) → P j → AllByRecursion P xs → AllByRecursion P (insert S j xs)
   all_insert P j [] p a = (p, tt)
   all_insert P j (x ∷ xs) p a = go (precedes S j x) refl (all_insert P j xs p a.1)
     where
-      go : (q : Bool) → precedes S j x ≡ q → All P (insert S j xs) → All P (insert S j (x ∷ xs))
+      go : (q : Bool) → precedes S j x ≡ q → AllByRecursion P (insert S j xs) → AllByRecursion P (insert S j (x ∷ xs))
       go true e ih = rw e (p, a)
       go false e ih = rw e (a.0, ih)
 

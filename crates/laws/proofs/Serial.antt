@@ -1,6 +1,6 @@
 -- The cells hold what the committed jobs wrote: what this means, and that it stays so while no job commits.
 use Rattle.std.proofs.Common.{◌≡◌, ℕ, ◌+◌, ◌<◌, ◌≤◌, Bool, true, false, ◌&&◌, eqb, leb, List, [], ◌∷◌, Some, filter, Option, sym, refl, arith}
-use Rattle.std.specs.List.{AllByRecursion as All}
+use Rattle.std.specs.List.{AllByRecursion}
 use Rattle.std.proofs.lemmas.Bool.{leb-true, leb-false, eqb-true, eqb-false}
 use Rattle.std.proofs.ByRecursion.{All-weaker}
 use Rattle.laws.specs.Setting.{Setting}
@@ -28,7 +28,7 @@ module _ {V : Type 0} (S : Setting V) where
     pub heads : (c i : ℕ) → c < S.classes → head (cells_of c i) ≤ declared_at S (S.grade c) t + 1
     pub reads : (c i n : ℕ) → c < S.classes → head (cells_of c i) ≤ n + 2 → value_at n (cells_of c i) ≡ Some (view c n (placed S js) i)
     pub newests : (c i : ℕ) → c < S.classes → newest_value (cells_of c i) ≡ Some (after_jobs (start_copy S) (placed S js) c i)
-    pub well_placed : All (λ x. WellPlaced S t (floor_of S x.class js) x) (placed S js)
+    pub well_placed : AllByRecursion (λ x. WellPlaced S t (floor_of S x.class js) x) (placed S js)
     pub ordered : Ordered S (placed S js)
     pub true_reads : ReadsOfCopy (start_copy S) (placed S js)
 

@@ -1,7 +1,7 @@
 -- One more committed job takes its place among the others, and the cells still hold what the committed jobs wrote.
 use Rattle.std.proofs.Common.{◌≡◌, ℕ, ◌+◌, ◌<◌, ◌≤◌, Bool, true, false, cond, eqb, leb, List, [], ◌∷◌, ◌++◌, Some, None, filter, Option, sym, refl, ap, ◌∙◌, subst, arith}
 use mathlib.Core.Path.{fun_ext}
-use Rattle.std.specs.List.{AllByRecursion as All}
+use Rattle.std.specs.List.{AllByRecursion}
 use Rattle.std.proofs.lemmas.Bool.{leb-true, leb-false, eqb-true, eqb-false, and_left, and_right}
 use Rattle.std.proofs.lemmas.List.Elements.{filter-append}
 use Rattle.std.proofs.ByRecursion.{All-weaker, all_kept_by}
@@ -36,10 +36,10 @@ module _ {V : Type 0} (S : Setting V) (L : Lawful S) (t : ℕ) (floor : ℕ → 
   abbrev m₁ : Copy V
   m₁ = after_jobs (start_copy S) pre
 
-  placed_pre : All Placed pre
+  placed_pre : AllByRecursion Placed pre
   placed_pre = all_left Placed pre post (rw parts.whole at B.well_placed)
 
-  placed_post : All Placed post
+  placed_post : AllByRecursion Placed post
   placed_post = all_right Placed pre post (rw parts.whole at B.well_placed)
 
   -- What j finds in the copy at class d, where it stands behind just what was written there under a or less.
@@ -61,7 +61,7 @@ module _ {V : Type 0} (S : Setting V) (L : Lawful S) (t : ℕ) (floor : ℕ → 
           kept_by_none p post (all_both Placed (λ x. precedes S j x ≡ true) (λ x. p x ≡ false)
           (λ x h r. of_not (p x) (λ e. true_not_false (sym r ∙ bef x h (in_view S d a x e)))) post placed_post parts.right)
 
-      quiet_pre : All (λ x. p x ≡ false → Quiet d x) pre
+      quiet_pre : AllByRecursion (λ x. p x ≡ false → Quiet d x) pre
       quiet_pre =
           all_both Placed (λ x. precedes S j x ≡ false) (λ x. p x ≡ false → Quiet d x)
           (λ x h l e. quiet_wrote_by S t _ d a x h e (λ c u w. true_not_false (sym (aft x h c u w) ∙ l))) pre placed_pre parts.left
@@ -71,7 +71,7 @@ module _ {V : Type 0} (S : Setting V) (L : Lawful S) (t : ℕ) (floor : ℕ → 
     same_floor : (x : Committed V) → x.class ≡ j.class → floor_of S x.class js ≤ floor_of S j.class js
     same_floor x e = rw e (omega arith)
 
-    quiet_post : All (Quiet j.class) post
+    quiet_post : AllByRecursion (Quiet j.class) post
     quiet_post = all_both Placed (λ x. precedes S j x ≡ true) (Quiet j.class) one post placed_post parts.right
       where
         one : (x : Committed V) → Placed x → precedes S j x ≡ true → Quiet j.class x
@@ -82,7 +82,7 @@ module _ {V : Type 0} (S : Setting V) (L : Lawful S) (t : ℕ) (floor : ℕ → 
             go update false u e = quiet_other S t _ j.class x h (eqb-false _ _ e)
             go update true u e = true_not_false (sym r ∙ own_first S L t _ _ j x n h (same_floor x (eqb-true _ _ e)) (eqb-true _ _ e) u)
 
-    blind_post : All (λ x. Blind j.class x.job.operations) post
+    blind_post : AllByRecursion (λ x. Blind j.class x.job.operations) post
     blind_post =
         all_both Placed (λ x. precedes S j x ≡ true) (λ x. Blind j.class x.job.operations)
         (λ x h r. blind_of S j.class x.class x.job.kind x.job.below x.job.operations h.allowed
@@ -172,7 +172,7 @@ module _ {V : Type 0} (S : Setting V) (L : Lawful S) (t : ℕ) (floor : ℕ → 
         m₂ : Copy V
         m₂ = after_jobs (start_copy S) (filter p pre)
 
-        quiet : All (Quiet j.class) (filter p post)
+        quiet : AllByRecursion (Quiet j.class) (filter p post)
         quiet = all_kept_by p (Quiet j.class) post quiet_post
 
         back : view S j.class k (placed S js) i ≡ m₂ j.class i

@@ -1,6 +1,6 @@
 -- One copy: the committed jobs, one after another in the order of their places, on a single copy of the items.
 use Rattle.std.specs.Prelude.{◌≡◌, ℕ, ◌+◌, ◌-◌, ◌*◌, ◌%◌, ◌<◌, max, Bool, false, cond, ◌&&◌, ◌||◌, List, [], ◌∷◌, Some, None, Option, ◌==◌, nat_lt}
-use Rattle.std.specs.List.{AllByRecursion as All}
+use Rattle.std.specs.List.{AllByRecursion}
 use Rattle.laws.specs.Setting.{Setting}
 use Rattle.laws.specs.State.{or_else, newest_value, Kind, State, update, long}
 use Rattle.laws.specs.History.{History}
@@ -68,7 +68,7 @@ module _ {V : Type 0} (S : Setting V) where
   -- No job precedes one that stands before it.
   abbrev pub Ordered : List (Committed V) → Type 0
   Ordered [] = Unit {0}
-  Ordered (x ∷ xs) = All (λ y. precedes y x ≡ false) xs × Ordered xs
+  Ordered (x ∷ xs) = AllByRecursion (λ y. precedes y x ≡ false) xs × Ordered xs
 
 -- The copy ------------------------------------------------------------------------------------------------------
 

@@ -1,6 +1,6 @@
 -- The worked cases, in one list: what the definitions of every layer come to on small examples.
 use Rattle.std.specs.Prelude.{◌≡◌, ℕ, zero, suc, ◌-◌, true, false, List, [], ◌∷◌, map, reverse, Some, None, nat_le}
-use Rattle.std.specs.List.{AllByRecursion as All}
+use Rattle.std.specs.List.{AllByRecursion}
 use Rattle.orders.specs.Labels.{label_dominates, label_grade}
 use Rattle.orders.specs.LabelledOrders.{make_label}
 use Rattle.cells.specs.Versions.{version, stored}
@@ -114,8 +114,8 @@ pub record Ticks : Type 0 where
   pub closes_old : (p : List (Pending ℕ)) → late three 2 1 2 (running (updating (Some 0) p)) ≡ true
   pub spares_new : (p : List (Pending ℕ)) → late three 2 1 2 (running (updating (Some 1) p)) ≡ false
   -- A long job that begins with the register outlives three ticks, and the fourth closes it.
-  pub outlives : All (λ c. bay_after c 3 ≡ running (reading 0)) (0 ∷ 1 ∷ 2 ∷ [])
-  pub is_closed : All (λ c. bay_after c 4 ≡ closed) (0 ∷ 1 ∷ 2 ∷ [])
+  pub outlives : AllByRecursion (λ c. bay_after c 3 ≡ running (reading 0)) (0 ∷ 1 ∷ 2 ∷ [])
+  pub is_closed : AllByRecursion (λ c. bay_after c 4 ≡ closed) (0 ∷ 1 ∷ 2 ∷ [])
 
 -- A run ---------------------------------------------------------------------------------------------------------
 

@@ -1,6 +1,6 @@
 -- A value that a frame writes is told again byte for byte.
 use Rattle.std.proofs.Common.{◌≡◌, ℕ, ◌<◌, Bool, true, List, [], ◌∷◌, drop, Some, sym, ap, ◌∙◌, subst, arith}
-use Rattle.std.specs.List.{AllByRecursion as All}
+use Rattle.std.specs.List.{AllByRecursion}
 use Rattle.std.proofs.ByRecursion.{All-drop}
 use Rattle.cells.specs.declared.value.Value.{Ghosts as ValueGhosts}
 use Rattle.orders.specs.declared.class_order.ClassOrder.{Ghosts as OrderGhosts}
@@ -25,7 +25,7 @@ use Rattle.lines.proofs.OwnWrites.{reads_own_write}
 -- Bytes -----------------------------------------------------------------------------------------------------------
 
 abbrev pub Bytes : List ℕ → Type 0
-Bytes = All (λ b. b < 256)
+Bytes = AllByRecursion (λ b. b < 256)
 
 module _ {V : Type 0} (v : ValueGhosts V) (encodes : (bytes : List ℕ) (x : V) → Bytes bytes → v.decoding bytes ≡ Some x → v.encoding x ≡ bytes) where
   -- The frame writes this value: it has its bytes.
