@@ -1,11 +1,14 @@
 //! The register: its calls over memory that the caller lends, proved against the definition and its laws.
 #![tactic(auto)]
 
+pub mod bay;
 mod bay_access;
 mod begin;
 mod calls;
 mod cell_values;
 pub mod class_setup;
+pub mod class_state;
+pub mod clock;
 mod commit;
 pub mod declaration;
 mod door;
@@ -15,6 +18,7 @@ mod fill_memory;
 mod first_cell;
 mod floor;
 mod give_up;
+pub mod item_counts;
 pub mod job_fault;
 pub mod memory;
 mod pending_items;

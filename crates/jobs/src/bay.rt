@@ -1,0 +1,2 @@
+// What a bay holds.
+pub use register_parts::bay::{Bay, Job, PendingItems, UpdateJob};

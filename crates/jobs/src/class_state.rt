@@ -1,0 +1,2 @@
+// What a register keeps of a class.
+pub use register_parts::class_state::ClassState;

@@ -1,0 +1,2 @@
+// The clock of a register.
+pub use register_parts::clock::Clock;

@@ -1,0 +1,2 @@
+// How many items each class has.
+pub use register_parts::item_counts::ItemCounts;
