@@ -1,12 +1,12 @@
 -- Reading and writing have one form: what is written is read back as the same bytes, and what is read is written again as the same digits.
-use Rattle.std.proofs.Common.{◌≡◌, ℕ, ◌+◌, ◌*◌, ◌<◌, ◌≤◌, Bool, true, false, List, [], ◌∷◌, length, Some, None, Option, sym, refl, ap, ◌∙◌, ⊎_elim, arith}
+use Rattle.std.proofs.Common.{◌≡◌, ℕ, ◌*◌, ◌<◌, true, false, List, [], ◌∷◌, length, Some, None, Option, sym, refl, ◌∙◌, ⊎_elim, arith}
 use Rattle.std.proofs.lemmas.Bool.{cases_Bool}
 use Rattle.std.specs.List.{AllByRecursion}
 use Rattle.frames.specs.Digits.{byte_of, digits}
 use Rattle.frames.specs.Decoding.{with_byte, pairs, line_length, decoded}
 use Rattle.frames.specs.FrameSize.{FitsFrame}
 use Rattle.frames.specs.Laws.{Decodes}
-use Rattle.frames.proofs.DigitValues.{byte_of_digits, DigitsOf, digits_of_byte, length_digits}
+use Rattle.frames.proofs.DigitValues.{byte_of_digits, digits_of_byte, length_digits}
 use Rattle.frames.proofs.Reading.{decoded_pairs, decoded_malformed, line_length_true, line_length_from}
 
 -- What is written is read back.

@@ -4,7 +4,6 @@ use Rattle.std.specs.List.{AllByRecursion}
 use Rattle.std.proofs.lemmas.List.{append_assoc, drop_more, drop_at, take_more, take_all, set_at, length_push, length-take-le}
 use Rattle.frames.specs.Digits.{high_digit, low_digit, digits}
 use Rattle.frames.specs.Writing.{encoded_line, line_size}
-use Rattle.frames.specs.FrameSize.{FitsFrame}
 use Rattle.frames.specs.Lines.{lines}
 use Rattle.frames.specs.Laws.{NoNewline, ReadsBack}
 use Rattle.frames.proofs.Cutting.{lines_ended}

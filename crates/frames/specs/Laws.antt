@@ -4,7 +4,7 @@ use Rattle.std.specs.List.{AllByRecursion}
 use Rattle.frames.specs.Digits.{digits}
 use Rattle.frames.specs.Decoding.{decoded}
 use Rattle.frames.specs.FrameSize.{FitsFrame}
-use Rattle.frames.specs.Lines.{TextLine, lines}
+use Rattle.frames.specs.Lines.{lines}
 use Rattle.frames.specs.declared.first_line.Line.{Line}
 
 -- What is read is written again as the same digits; and what is not read are the digits of no bytes that fit a frame.

@@ -1,17 +1,15 @@
 -- The laws follow for every call that replies, and leaves, what the definition says.
-use Rattle.std.proofs.Common.{◌≡◌, ℕ, ◌<◌, ◌≤◌, Bool, true, ◌∷◌, get_or, sym, refl, ap, ◌∙◌, subst, arith}
+use Rattle.std.proofs.Common.{◌≡◌, ℕ, ◌<◌, ◌≤◌, true, ◌∷◌, sym, subst, arith}
 use Rattle.cells.specs.declared.value.Value.{Ghosts as ValueGhosts}
-use Rattle.orders.specs.Grades.{Greatest}
 use Rattle.orders.specs.declared.class_order.ClassOrder.{Ghosts as OrderGhosts}
 use Rattle.rules.specs.Rivals.{NamesARival}
 use Rattle.rules.specs.declared.local_rule.LocalRule.{Ghosts as RuleGhosts}
 use Rattle.laws.specs.Setting.{Setting, Lawful}
-use Rattle.laws.specs.State.{State}
 use Rattle.laws.specs.Calls.{Request, Reply}
-use Rattle.laws.specs.History.{entry, History, Stands}
+use Rattle.laws.specs.History.{entry, Stands}
 use Rattle.laws.specs.Laws.{Laws}
 use Rattle.jobs.specs.Represents.{setting, state, defined, LeadsTo}
-use Rattle.jobs.specs.CallLaws.{Topped, StandsAfter, called, Lawfully}
+use Rattle.jobs.specs.CallLaws.{Topped, called, Lawfully}
 use Rattle.jobs.specs.declared.register.Register.{Register}
 use Rattle.jobs.specs.declared.memory.Memory.{Memory}
 use Rattle.jobs.proofs.ItemSums.{sum_most}

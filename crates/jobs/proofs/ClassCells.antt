@@ -13,7 +13,6 @@ use Rattle.cells.specs.declared.older.Older.{Older}
 use Rattle.cells.specs.declared.older.Older.TheVariants.{Nothing, One, Two}
 use Rattle.cells.specs.declared.cell.Cell.{Cell}
 use Rattle.laws.specs.Setting.{Setting, sum_below}
-use Rattle.laws.specs.State as definition
 use Rattle.laws.specs.State.{Pending, find}
 use Rattle.laws.specs.Actions.{stored_item}
 use Rattle.jobs.specs.Represents.{cell_of}

@@ -1,12 +1,10 @@
 -- Memory that set-up has filled: a fresh register stands on it.
-use Rattle.std.proofs.Common.{◌≡◌, ℕ, zero, suc, ◌+◌, ◌*◌, ◌<◌, ◌≤◌, Bool, true, false, cond, ◌&&◌, ltb, leb, List, [], ◌∷◌, map, length, get_or, replicate, is_some, Some, None, Option, sym, refl, ap, ◌∙◌, ap₂, arith}
+use Rattle.std.proofs.Common.{◌≡◌, ℕ, zero, suc, ◌+◌, ◌*◌, ◌<◌, ◌≤◌, Bool, true, false, cond, ltb, leb, List, [], ◌∷◌, map, length, get_or, replicate, is_some, Some, None, Option, sym, refl, ap, ◌∙◌, ap₂, arith}
 use mathlib.Core.Path.{fun_ext}
 use Rattle.std.specs.Option.{option_map}
 use Rattle.std.proofs.lemmas.Bool.{and_parts, leb-true, ltb-true}
 use Rattle.cells.specs.Versions.{fresh}
 use Rattle.cells.specs.Cells.{versions, item}
-use Rattle.cells.specs.declared.cell.Cell.{Cell}
-use Rattle.cells.specs.declared.version.Version.{Version}
 use Rattle.cells.specs.declared.value.Value.{Ghosts as ValueGhosts}
 use Rattle.orders.specs.declared.class_order.ClassOrder.{Ghosts as OrderGhosts}
 use Rattle.rules.specs.Claims.{Claims, no_claims}
@@ -16,8 +14,8 @@ use Rattle.laws.specs.Setting.{Setting, sum_below}
 use Rattle.laws.specs.State as definition
 use Rattle.laws.specs.State.{Class, State, free, fresh_class, fresh_state}
 use Rattle.laws.specs.History.{Stands}
-use Rattle.jobs.specs.Represents.{no_state, bay_of, bay_values, class_of, cell_place, claims_in, setting, state, enough}
-use Rattle.jobs.specs.SetUp.{Overwritten, FreshCell, FreshRule, fresh_class_state}
+use Rattle.jobs.specs.Represents.{no_state, bay_of, bay_values, class_of, claims_in, setting, state, enough}
+use Rattle.jobs.specs.SetUp.{fresh_class_state}
 use Rattle.jobs.specs.Fill.{FreshMemory, Unused}
 use Rattle.register_parts.specs.declared.bay.Bay.TheVariants.{Free}
 use Rattle.register_parts.specs.declared.class_state.ClassState.{ClassState}

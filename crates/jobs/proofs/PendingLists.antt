@@ -1,9 +1,9 @@
 -- Pending values by their places: what a search finds, and where one more value goes.
-use Rattle.std.proofs.Common.{◌≡◌, ℕ, zero, suc, ◌+◌, ◌-◌, ◌<◌, ◌≤◌, Bool, true, false, cond, eqb, ltb, List, [], ◌∷◌, length, get_or, take, drop, set, is_some, Some, None, sym, refl, ap, ◌∙◌, arith}
+use Rattle.std.proofs.Common.{◌≡◌, ℕ, zero, suc, ◌-◌, ◌<◌, ◌≤◌, Bool, true, false, cond, eqb, ltb, List, [], ◌∷◌, length, get_or, take, drop, set, is_some, Some, sym, refl, ap, ◌∙◌, arith}
 use Prim.Native.Nat.compare
 use Rattle.std.proofs.lemmas.Bool.{lt-ltb}
 use Rattle.std.proofs.lemmas.List.{get_or-take, length-take}
-use Rattle.laws.specs.State.{Pending, find, pend}
+use Rattle.laws.specs.State.{find, pend}
 use Rattle.jobs.specs.Represents.{beside}
 use Rattle.register_parts.specs.PendingPlaces.{place, with_item}
 

@@ -1,10 +1,9 @@
 -- What set-up makes of checked counts.
-use Rattle.std.proofs.Common.{◌≡◌, ℕ, List, length, Ok, Err, Result, sym, refl, ◌∙◌, subst}
+use Rattle.std.proofs.Common.{◌≡◌, ℕ, List, length, Ok, Err, Result, refl, ◌∙◌, subst}
 use Rattle.std.proofs.lemmas.Bool.{eq-eqb, ne_eqb}
 use Rattle.orders.specs.declared.class_order.ClassOrder.{Ghosts as OrderGhosts}
-use Rattle.register_parts.specs.CheckedCounts.{checked_counts, counts_in}
+use Rattle.register_parts.specs.CheckedCounts.{checked_counts}
 use Rattle.jobs.specs.SetUp.{counts_for, FreshRegister, SetUp}
-use Rattle.register_parts.specs.declared.item_counts.ItemCounts.{ItemCounts}
 use Rattle.jobs.specs.declared.register.Register.{Register}
 use Rattle.register_parts.specs.declared.setup_fault.SetUpFault.{SetUpFault}
 use Rattle.register_parts.specs.declared.setup_fault.SetUpFault.TheVariants.{OtherClassCount}

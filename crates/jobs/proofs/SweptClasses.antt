@@ -1,13 +1,13 @@
 -- The sweep, class by class, is what the definition says of a tick.
-use Rattle.std.proofs.Common.{◌≡◌, ℕ, ◌+◌, ◌<◌, ◌≤◌, Bool, true, false, cond, ◌&&◌, eqb, ltb, List, map, length, get_or, set, Some, None, Option, sym, refl, ap, ◌∙◌, subst, ap₂, arith}
+use Rattle.std.proofs.Common.{◌≡◌, ℕ, ◌+◌, ◌<◌, ◌≤◌, Bool, true, false, cond, ◌&&◌, eqb, ltb, List, map, length, get_or, set, Some, None, Option, sym, refl, ap, ◌∙◌, ap₂, arith}
 use mathlib.Core.Path.{fun_ext}
 use lib.ListN.{length-map}
-use Rattle.std.proofs.lemmas.List.{get_or-map, get_or_past, get_or-set_same, get_or-set_other, map-set, length-set}
+use Rattle.std.proofs.lemmas.List.{get_or-map, get_or_past, get_or-set_other, map-set, length-set}
 use Rattle.std.proofs.lemmas.Bool.{eqb-true, eqb-false, ltb-true, ltb-false, lt-ltb, le-ltb, and_right, cond-true, cond-false}
 use Rattle.cells.specs.declared.cell.Cell.{Cell}
 use Rattle.cells.specs.declared.value.Value.{Ghosts as ValueGhosts}
 use Rattle.orders.specs.declared.class_order.ClassOrder.{Ghosts as OrderGhosts}
-use Rattle.rules.specs.Claims.{Claims, no_claims, without}
+use Rattle.rules.specs.Claims.{Claims, without}
 use Rattle.rules.specs.declared.local_rule.LocalRule.{Ghosts as RuleGhosts}
 use Rattle.laws.specs.Setting.{Setting}
 use Rattle.laws.specs.State as definition
@@ -20,7 +20,6 @@ use Rattle.register_parts.specs.LateJobs.{behind, late_bay, closed_if_late}
 use Rattle.jobs.specs.Sweeps.{with_late_closed, claims_left, with_classes, SweptBelow}
 use Rattle.register_parts.specs.declared.bay.Bay.{Bay}
 use Rattle.register_parts.specs.declared.bay.Bay.TheVariants.{Free, Closed, Open}
-use Rattle.register_parts.specs.declared.bay.Job.{Job}
 use Rattle.register_parts.specs.declared.bay.Job.TheVariants.{Update, Long}
 use Rattle.register_parts.specs.declared.class_state.ClassState.{ClassState}
 use Rattle.register_parts.specs.declared.declaration.Declaration.{Declaration}

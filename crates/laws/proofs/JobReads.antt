@@ -1,14 +1,13 @@
 -- What an open job has read so far is what it would read of a copy with the right values, and stays so while others act.
 use Rattle.std.proofs.Common.{◌≡◌, ℕ, ◌+◌, ◌-◌, ◌<◌, ◌≤◌, Bool, true, false, eqb, List, [], ◌∷◌, Some, None, Option, sym, refl, ap, ◌∙◌, arith}
 use Rattle.std.proofs.lemmas.Bool.{eqb-true, eqb-false, ne_eqb, and_from, or_left, or_right}
-use Rattle.cells.specs.Versions.{newest}
 use Rattle.rules.specs.Claims.{Claims, with_write}
 use Rattle.laws.specs.Setting.{Setting, dominates, Lawful}
 use Rattle.laws.specs.State.{or_else, Cell, newest_value, value_at, Pending, find, pend, Bay, Class, update, long, updating, reading, free, closed, running}
 use Rattle.laws.specs.Calls.{Action, by}
 use Rattle.laws.specs.Clock.{writing_number}
 use Rattle.laws.specs.Actions.{Outcome, or_start}
-use Rattle.laws.specs.Transactions.{event, Time, Operation, Transaction, continued, reads, writes, read_of, write_of}
+use Rattle.laws.specs.Transactions.{event, Time, Operation, Transaction, continued, read_of, write_of}
 use Rattle.laws.specs.OneCopy.{Copy, after_operations, ReadsOfJob}
 use Rattle.laws.proofs.Tests.{long_not_update, none_not_some, some_eq, eqb_same}
 use Rattle.laws.proofs.Dominance.{inside, reflexive, lower}

@@ -4,9 +4,7 @@ use Rattle.std.proofs.lemmas.Bool.{eqb-true, eqb-false}
 use Rattle.laws.specs.Setting.{Setting, dominates, Lawful}
 use Rattle.laws.specs.State.{Kind, update, long}
 use Rattle.laws.specs.Clock.{declared}
-use Rattle.laws.specs.Step.{known}
 use Rattle.laws.specs.Transactions.{Time, Operation, Committed, read_of, write_of}
-use Rattle.laws.specs.Separation.{stays}
 use Rattle.laws.specs.OneCopy.{grade_of, wrote_under, base, long_number, place, turn_at, turn, precedes}
 use Rattle.laws.proofs.Dominance.{lower}
 use Rattle.laws.proofs.ClockLaws.{declared_falls, declared_rises}

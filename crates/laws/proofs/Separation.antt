@@ -8,7 +8,6 @@ use Rattle.laws.specs.Clock.{last_tick, tick_grade, tick_number, swept, after_ti
 use Rattle.laws.specs.Actions.{Outcome, reads_by, reads_in, perform}
 use Rattle.laws.specs.Step.{Stepped, known, outcome, request_step, step}
 use Rattle.laws.specs.History.{History, after, Faithful}
-use Rattle.laws.specs.Transactions.{ticks}
 use Rattle.laws.specs.Separation.{stays, only, Separated, ClosedBelow}
 use Rattle.laws.proofs.Tests.{true_not_false, and_l, or_r}
 use Rattle.laws.proofs.Dominance.{transitive}

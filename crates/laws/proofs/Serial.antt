@@ -5,7 +5,7 @@ use Rattle.std.proofs.lemmas.Bool.{leb-true, leb-false, eqb-true, eqb-false}
 use Rattle.std.proofs.ByRecursion.{All-weaker}
 use Rattle.laws.specs.Setting.{Setting}
 use Rattle.laws.specs.State.{Cell, newest_value, value_at, Kind, update, long}
-use Rattle.laws.specs.Transactions.{Time, Operation, Committed, floor_of, reads, read_of, write_of}
+use Rattle.laws.specs.Transactions.{Time, Operation, Committed, floor_of, read_of, write_of}
 use Rattle.laws.specs.OneCopy.{by_kind, wrote_under, placed, Ordered, after_jobs, ReadsOfCopy, start_copy}
 use Rattle.laws.proofs.Tests.{true_not_false, and_l, and_r}
 use Rattle.laws.proofs.ClockLaws.{declared_rises}

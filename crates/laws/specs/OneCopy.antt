@@ -4,7 +4,7 @@ use Rattle.std.specs.List.{AllByRecursion}
 use Rattle.laws.specs.Setting.{Setting}
 use Rattle.laws.specs.State.{or_else, newest_value, Kind, State, update, long}
 use Rattle.laws.specs.History.{History}
-use Rattle.laws.specs.Transactions.{Operation, Committed, down, committed, reads, read_of, write_of}
+use Rattle.laws.specs.Transactions.{Operation, Committed, down, committed, read_of, write_of}
 
 -- The serialization order ---------------------------------------------------------------------------------------
 

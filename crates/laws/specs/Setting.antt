@@ -1,5 +1,5 @@
 -- What a register is set up with: its classes, their order and items, the starting value, and the policies of the local rules.
-use Rattle.std.specs.Prelude.{◌≡◌, ℕ, zero, suc, ◌+◌, ◌<◌, ◌≤◌, Bool, true, ◌&&◌, ◌||◌, nat_lt}
+use Rattle.std.specs.Prelude.{◌≡◌, ℕ, zero, suc, ◌+◌, ◌<◌, ◌≤◌, Bool, true, ◌&&◌, nat_lt}
 use Rattle.rules.specs.Claims.{Policy}
 use Rattle.rules.specs.Rivals.{NamesARival}
 

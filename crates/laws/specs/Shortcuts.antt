@@ -1,8 +1,8 @@
 -- Three shortcuts that a register might take, and that break the law of one copy: for each a short run in which it fails.
-use Rattle.std.specs.Prelude.{ℕ, ◌+◌, Bool, true, false, cond, List, [], ◌∷◌, Some, None, Option, ◌==◌}
+use Rattle.std.specs.Prelude.{ℕ, ◌+◌, true, cond, List, [], ◌∷◌, Some, None, ◌==◌}
 use Rattle.rules.specs.Policies.{always_yes}
 use Rattle.laws.specs.Setting.{Setting}
-use Rattle.laws.specs.State.{Cell, Job, updating, reading, Bay, free, closed, running, Class, State, with_bay, fresh_state}
+use Rattle.laws.specs.State.{Cell, updating, reading, Bay, free, closed, running, Class, State, with_bay, fresh_state}
 use Rattle.laws.specs.Calls.{Action, begin, read, write, commit, give_up, Request, by, tick}
 use Rattle.laws.specs.Actions.{Outcome, answer, perform}
 use Rattle.laws.specs.Step.{Stepped, with_outcome, tick_step}

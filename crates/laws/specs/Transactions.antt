@@ -3,7 +3,6 @@ use Rattle.std.specs.Prelude.{ℕ, suc, ◌+◌, ◌-◌, cond, ◌&&◌, List, 
 use Rattle.laws.specs.Setting.{Setting}
 use Rattle.laws.specs.State.{or_else, Kind, update, long}
 use Rattle.laws.specs.Calls.{Request, Reply, begin, read, write, commit, give_up, by, tick, done, got, ticked, refused, denied}
-use Rattle.laws.specs.Clock.{declared}
 use Rattle.laws.specs.Actions.{kind_of}
 use Rattle.laws.specs.History.{Entry, History}
 

@@ -1,5 +1,5 @@
 -- A session never gives up the register that it serves, nor changes what the register is set up with.
-use Rattle.std.proofs.Common.{ℕ, Bool, true, false, cond, eqb, List, length, Some, None, Option, arith}
+use Rattle.std.proofs.Common.{ℕ, true, false, cond, List, Some, None, Option, arith}
 use Rattle.frames.specs.Decoding.{decoded}
 use Rattle.cells.specs.declared.value.Value.{Ghosts as ValueGhosts}
 use Rattle.cells.specs.contracts.word.U32Value.TheImpl.{ghosts as words}
@@ -11,7 +11,7 @@ use Rattle.lines.specs.JobFrames.{right_length}
 use Rattle.lines.specs.JobLines.{Room, call_of}
 use Rattle.lines.specs.Needs.{no_room}
 use Rattle.lines.specs.Operations.{byte, operation_of}
-use Rattle.lines.specs.Phases.{Phase, opening, planning, serving_words, serving_slips, Rooms, Event, word_call, slip_call, Answer, refuse, called_answer, in_serving, in_phase, by_frame, by_operation, answered}
+use Rattle.lines.specs.Phases.{Phase, opening, planning, serving_words, serving_slips, Rooms, Event, word_call, slip_call, refuse, called_answer, in_serving, in_phase, by_frame, by_operation, answered}
 use Rattle.lines.specs.declared.line_fault.LineFault.TheVariants.{WrongLength}
 use Rattle.lines.specs.declared.operation.Operation.{Operation}
 use Rattle.lines.specs.declared.operation.Operation.TheVariants.{Choose, AddClass, Start, Job}

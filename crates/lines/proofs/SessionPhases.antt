@@ -1,5 +1,5 @@
 -- The phase of a session whose stage and kind of value are known, and its job frames.
-use Rattle.std.proofs.Common.{◌≡◌, ℕ, List, [], ◌∷◌, Ok, Err, Result, sym, refl, ap, ◌∙◌, subst}
+use Rattle.std.proofs.Common.{◌≡◌, ℕ, List, Err, Result, sym, ap, ◌∙◌, subst}
 use Rattle.cells.specs.declared.slip.Slip.{Slip}
 use Rattle.cells.specs.contracts.word.U32Value.TheImpl.{ghosts as words}
 use Rattle.cells.specs.contracts.slip.SlipValue.TheImpl.{ghosts as slips}
@@ -15,7 +15,7 @@ use Rattle.lines.specs.JobLines.{room_of, call_of}
 use Rattle.lines.specs.Answers.{Leaves}
 use Rattle.lines.specs.Phases.{Phase, serving_words, serving_slips, word_call, slip_call, refuse, in_phase}
 use Rattle.lines.specs.Sessions.{serving, at_stage, phase_of}
-use Rattle.lines.specs.Supplies.{rooms_of, ChangedFor}
+use Rattle.lines.specs.Supplies.{rooms_of}
 use Rattle.lines.specs.declared.kinds.ValueKind.{ValueKind}
 use Rattle.lines.specs.declared.kinds.ValueKind.TheVariants.{Words, Slips}
 use Rattle.lines.specs.declared.line_fault.LineFault.{LineFault}

@@ -1,5 +1,5 @@
 -- A session whose register is opened, over words or over slips.
-use Rattle.std.proofs.Common.{◌≡◌, ℕ, cond, leb, List, [], ◌∷◌, Some, None, Ok, Err, Result, sym, refl, ap, ◌∙◌, subst}
+use Rattle.std.proofs.Common.{◌≡◌, ℕ, cond, leb, [], ◌∷◌, Some, None, Ok, Err, Result, sym, ap, subst}
 use Rattle.cells.specs.declared.slip.Slip.{Slip}
 use Rattle.cells.specs.contracts.word.U32Value.TheImpl.{ghosts as words}
 use Rattle.cells.specs.contracts.slip.SlipValue.TheImpl.{ghosts as slips}
@@ -14,11 +14,11 @@ use Rattle.lines.specs.Drafts.{drafted}
 use Rattle.lines.specs.JobLines.{room_of}
 use Rattle.lines.specs.FreshRegisters.{Opened}
 use Rattle.lines.specs.Openings.{opening_fault}
-use Rattle.lines.specs.Phases.{Phase, planning, serving_words, serving_slips, Answer, refuse, start_as, start_answer}
+use Rattle.lines.specs.Phases.{Phase, planning, serving_words, serving_slips, refuse, start_as, start_answer}
 use Rattle.lines.specs.Plans.{draft_of}
 use Rattle.lines.specs.Replies.{held_bytes}
 use Rattle.lines.specs.Sessions.{serving, at_stage, phase_of}
-use Rattle.lines.specs.Supplies.{rooms_of, ChangedFor}
+use Rattle.lines.specs.Supplies.{rooms_of}
 use Rattle.lines.specs.declared.kinds.ValueKind.{ValueKind}
 use Rattle.lines.specs.declared.kinds.ValueKind.TheVariants.{Words, Slips}
 use Rattle.lines.specs.declared.line_fault.LineFault.{LineFault}

@@ -1,8 +1,7 @@
 -- The end of set-up: what the register that is opened, or the refusal, makes of the session.
-use Rattle.std.proofs.Common.{◌≡◌, ℕ, Bool, true, false, cond, leb, List, [], ◌∷◌, Some, None, Ok, Err, Option, Result, sym, refl, ap, ◌∙◌, subst, arith}
-use Rattle.cells.specs.declared.slip.Slip.{Slip}
+use Rattle.std.proofs.Common.{◌≡◌, ℕ, Bool, true, false, cond, leb, [], ◌∷◌, Some, None, Ok, Err, Option, sym, refl, ap, ◌∙◌, subst, arith}
 use Rattle.cells.specs.declared.value.Value.{Ghosts as ValueGhosts}
-use Rattle.laws.specs.Setting.{Setting, Lawful}
+use Rattle.laws.specs.Setting.{Setting}
 use Rattle.laws.specs.State.{State, fresh_state}
 use Rattle.register_parts.specs.declared.job_fault.JobFault.TheVariants.{TooLittleMemory}
 use Rattle.lines.specs.Drafts.{Draft, drafted}

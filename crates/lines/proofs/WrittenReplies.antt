@@ -1,10 +1,8 @@
 -- A reply that was written over the front of the output.
-use Rattle.std.proofs.Common.{◌≡◌, ℕ, ◌+◌, ◌-◌, ◌*◌, ◌<◌, ◌≤◌, Bool, true, false, cond, List, [], ◌∷◌, ◌++◌, length, take, drop, Some, None, Option, sym, refl, ap, ◌∙◌, subst, arith}
+use Rattle.std.proofs.Common.{◌≡◌, ℕ, ◌-◌, ◌≤◌, Bool, true, false, cond, List, [], ◌∷◌, ◌++◌, length, take, drop, Some, None, sym, ap, ◌∙◌, arith}
 use Rattle.std.proofs.lemmas.List.{length-append, length-take-le}
-use Rattle.frames.specs.Lines.{TextLine, lines, Cuts}
 use Rattle.frames.specs.Digits.{digits}
 use Rattle.frames.specs.Writing.{encoded_line, line_size, has_room, write_reply, written_over}
-use Rattle.frames.specs.declared.first_line.Line.{Line}
 use Rattle.frames.proofs.DigitValues.{length_digits}
 use Rattle.lines.specs.Replies.{held_bytes}
 use Rattle.lines.specs.declared.reply_bytes.ReplyBytes.{ReplyBytes}

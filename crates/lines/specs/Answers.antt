@@ -1,6 +1,6 @@
 -- What a session does with a line, against what the definition answers.
-use Rattle.std.specs.Prelude.{◌≡◌, ℕ, List, [], ◌∷◌}
-use Rattle.lines.specs.Phases.{Phase, Answer}
+use Rattle.std.specs.Prelude.{◌≡◌, [], ◌∷◌}
+use Rattle.lines.specs.Phases.{Answer}
 use Rattle.lines.specs.SessionLaws.{KeepsSessionLaws}
 use Rattle.lines.specs.Supplies.{ChangedFor}
 use Rattle.lines.specs.Sessions.{phase_of}

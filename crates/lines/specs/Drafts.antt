@@ -1,5 +1,5 @@
 -- Set-up, frame by frame: what was said so far of the register that is to be.
-use Rattle.std.specs.Prelude.{ℕ, ◌+◌, ◌*◌, Bool, cond, ◌&&◌, List, [], ◌∷◌, ◌++◌, length, Some, None, Ok, Err, sum, Option, Result, ◌==◌, nat_le, slice_index}
+use Rattle.std.specs.Prelude.{ℕ, ◌+◌, ◌*◌, Bool, cond, ◌&&◌, List, [], ◌∷◌, ◌++◌, length, Ok, Err, sum, Result, ◌==◌, nat_le, slice_index}
 use Rattle.sets.specs.Below.{greatest_below}
 use Rattle.sets.specs.Members.{has_bit, all_under}
 use Rattle.sets.specs.declared.small_set.SmallSet.{SmallSet}

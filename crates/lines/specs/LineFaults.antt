@@ -4,7 +4,6 @@ use Rattle.orders.specs.declared.order_fault.OrderFault.{OrderFault}
 use Rattle.orders.specs.declared.order_fault.OrderFault.TheVariants.{TooManyClasses, RankTooHigh, NotSmaller, LabelUsed}
 use Rattle.register_parts.specs.FaultNumbers as jobs
 use Rattle.register_parts.specs.FaultNumbers.{raised_by_rule}
-use Rattle.register_parts.specs.declared.job_fault.JobFault.{JobFault}
 use Rattle.register_parts.specs.declared.job_fault.JobFault.TheVariants.{TooLittleMemory as TooLittleForJobs}
 use Rattle.register_parts.specs.declared.setup_fault.SetUpFault.{SetUpFault}
 use Rattle.register_parts.specs.declared.setup_fault.SetUpFault.TheVariants.{TooManyClasses as TooManyRecords, OtherClassCount, TooManyItems, TooManyItemsInAll, NoSuchVariant, TooLittleMemory}

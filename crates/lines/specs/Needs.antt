@@ -1,5 +1,5 @@
 -- Which part of lent memory a register needs.
-use Rattle.std.specs.Prelude.{ℕ, ◌*◌}
+use Rattle.std.specs.Prelude.{◌*◌}
 use Rattle.laws.specs.Setting.{Setting, sum_below, bay_count}
 use Rattle.laws.specs.Actions.{pending_places}
 use Rattle.jobs.specs.Lent.{below, ChangedOnly}

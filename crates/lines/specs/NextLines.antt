@@ -1,9 +1,9 @@
 -- What is done with the first line of an input.
-use Rattle.std.specs.Prelude.{◌≡◌, ℕ, ◌<◌, ◌≤◌, Bool, ◌||◌, ltb, List, [], ◌∷◌, ◌++◌, length, drop, Some, None, Option}
-use Rattle.frames.specs.Lines.{TextLine, lines}
+use Rattle.std.specs.Prelude.{◌≡◌, ℕ, ◌<◌, ◌≤◌, List, ◌∷◌, ◌++◌, length, drop, Some, None, Option}
+use Rattle.frames.specs.Lines.{lines}
 use Rattle.frames.specs.Writing.{encoded_line}
 use Rattle.lines.specs.Answers.{Leaves}
-use Rattle.lines.specs.Phases.{Answer, answered}
+use Rattle.lines.specs.Phases.{answered}
 use Rattle.lines.specs.Runs.{reply_room, stopped, run}
 use Rattle.lines.specs.Sessions.{phase_of}
 use Rattle.lines.specs.Supplies.{rooms_of}

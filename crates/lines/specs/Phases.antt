@@ -22,7 +22,6 @@ use Rattle.lines.specs.declared.line_fault.LineFault.{LineFault}
 use Rattle.lines.specs.declared.line_fault.LineFault.TheVariants.{Malformed, UnknownOperation, OutOfOrder, WrongLength, OutOfRange, Refused}
 use Rattle.lines.specs.declared.operation.Operation.{Operation}
 use Rattle.lines.specs.declared.operation.Operation.TheVariants.{Choose, AddClass, Start, Job}
-use Rattle.lines.specs.declared.operation.JobOperation.{JobOperation}
 
 -- At first the kinds are to be chosen; then the classes are added, and the rule is chosen; then jobs are served, over words or over slips.
 pub data Phase : Type 0 where

@@ -1,5 +1,5 @@
 -- What holds of every plan of a register.
-use Rattle.std.specs.Prelude.{ℕ, List, Some, None, Option}
+use Rattle.std.specs.Prelude.{Some, None, Option}
 use Rattle.orders.specs.declared.chosen_order.ChosenOrder.{ChosenOrder}
 use Rattle.lines.specs.Drafts.{Classes, no_classes, classes_in}
 use Rattle.lines.specs.declared.kinds.OrderKind.{OrderKind}

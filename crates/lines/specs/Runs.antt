@@ -2,7 +2,7 @@
 use Rattle.std.specs.Prelude.{◌≡◌, ℕ, ◌+◌, ◌-◌, ◌≤◌, cond, List, [], ◌∷◌, ◌++◌, length, take, drop, nat_lt}
 use Rattle.frames.specs.Lines.{TextLine, lines}
 use Rattle.frames.specs.Writing.{encoded_line}
-use Rattle.lines.specs.Phases.{Phase, Rooms, Event, Answer, answered}
+use Rattle.lines.specs.Phases.{Phase, Rooms, Event, answered}
 use Rattle.lines.specs.declared.served.Served.{Served}
 
 -- The longest reply, in digits and with its byte 10, has so many bytes.

@@ -1,5 +1,4 @@
 -- Which phase a session and the memory lent to it stand for.
-use Rattle.std.specs.Prelude.{ℕ, List, take, Some, None, Option}
 use Rattle.cells.specs.contracts.word.U32Value.TheImpl.{ghosts as words}
 use Rattle.cells.specs.contracts.slip.SlipValue.TheImpl.{ghosts as slips}
 use Rattle.orders.specs.contracts.chosen_order.ChosenOrderClassOrder.TheImpl.{ghosts as orders}

@@ -4,7 +4,7 @@ use Rattle.std.proofs.Common.{sym, ◌∙◌, ⊎_elim, arith}
 use Rattle.std.proofs.lemmas.Bool.{both_ways, cases_lt}
 use Rattle.sets.specs.declared.small_set.SmallSet.{SmallSet}
 use Rattle.orders.specs.Links.{link, dominates_as_drawn, grade_as_drawn, Drawn, Falling}
-use Rattle.orders.specs.Paths.{path, Reachable, Longest}
+use Rattle.orders.specs.Paths.{Reachable, Longest}
 use Rattle.orders.specs.Newest.{unrolled, height_unrolled, past}
 use Rattle.orders.specs.Descent.{Descends}
 use Rattle.orders.specs.Descent as descent

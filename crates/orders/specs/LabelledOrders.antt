@@ -1,5 +1,5 @@
 -- How an order of labels is built up.
-use Rattle.std.specs.Prelude.{ℕ, ◌+◌, Bool, cond, List, [], ◌∷◌, ◌++◌, length, take, Ok, Err, Result, nat_le, nat_lt}
+use Rattle.std.specs.Prelude.{ℕ, Bool, cond, List, [], ◌∷◌, ◌++◌, length, take, Ok, Err, Result, nat_le, nat_lt}
 use Rattle.sets.specs.Below.{some_below}
 use Rattle.orders.specs.Labels.{label_at, same_label}
 use Rattle.orders.specs.declared.label.Label.{Label}

@@ -2,7 +2,7 @@
 use Rattle.std.proofs.Common.{◌≡◌, ℕ, zero, suc, ◌<◌, Bool, false, ◌≢◌, List, map, length, get_or, set, replicate, sym, refl, ap, ◌∙◌, ⊎_elim, get_or-set_other, get_or-set_same}
 use lib.ListN.{get_or-map}
 use Rattle.std.proofs.lemmas.Bool.{cases_eq, eq-eqb, ne_eqb, lt-ltb, cases_Bool, both_ways}
-use Rattle.sets.specs.Members.{members, nothing, overlap}
+use Rattle.sets.specs.Members.{members, overlap}
 use Rattle.sets.specs.declared.small_set.SmallSet.{SmallSet}
 use Rattle.sets.proofs.Bits.{has_none}
 use Rattle.sets.proofs.Overlap.{overlap_gives}

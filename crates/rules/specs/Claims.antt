@@ -1,6 +1,6 @@
 -- What a local rule means: which items each bay claims, which bays are stale, and how the calls change that.
 -- A bay is the slot of one running transaction; a claim is a lock request or an entry for validation.
-use Rattle.std.specs.Prelude.{ℕ, Bool, true, false, not, ◌&&◌, ◌||◌, ◌==◌, nat_eq}
+use Rattle.std.specs.Prelude.{ℕ, Bool, false, not, ◌&&◌, ◌||◌, ◌==◌, nat_eq}
 use Rattle.sets.specs.Members.{overlap}
 use Rattle.rules.specs.declared.answer.Answer.{Answer}
 

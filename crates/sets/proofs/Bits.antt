@@ -1,5 +1,5 @@
 -- Binary digits of unions, single bits and intersections, and what a number that is not 0 has.
-use Rattle.std.proofs.Common.{◌≡◌, ℕ, zero, suc, ◌+◌, ◌-◌, ◌*◌, ◌/◌, ◌%◌, ◌^◌, ◌<◌, ◌≤◌, Bool, true, false, cond, not, ◌&&◌, ◌||◌, eqb, ltb, ◌⊎◌, sym, refl, ap, ◌∙◌, subst, inl, inr, ⊎_elim, add-one, arith, pow_pos, pow_mono}
+use Rattle.std.proofs.Common.{◌≡◌, ℕ, zero, suc, ◌+◌, ◌-◌, ◌*◌, ◌/◌, ◌%◌, ◌^◌, ◌<◌, ◌≤◌, true, false, ◌&&◌, ◌||◌, eqb, ltb, ◌⊎◌, refl, ap, ◌∙◌, inl, inr, ⊎_elim, add-one, arith, pow_pos, pow_mono}
 use native.Mathlib.Nat.{div-eq_of_lt, div-eq_of_lt-le}
 use lib.Bits.{bit_and, bit_or, or_shr, or_mod, and_shr, and_mod}
 use Rattle.std.proofs.lemmas.Nat.{pow-add, pow_below, shl-shr, one_shl, leading_top}

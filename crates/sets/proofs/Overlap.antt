@@ -1,9 +1,9 @@
 -- What it says that two sets overlap, and that a set lies below a number.
-use Rattle.std.proofs.Common.{◌≡◌, ℕ, zero, suc, ◌/◌, ◌^◌, ◌<◌, ◌≤◌, Bool, true, false, cond, not, ◌&&◌, ◌||◌, eqb, ltb, ◌⊎◌, sym, refl, ap, ◌∙◌, inl, inr, ⊎_elim, arith, pow_pos, pow_mono}
+use Rattle.std.proofs.Common.{◌≡◌, ℕ, suc, ◌/◌, ◌^◌, ◌<◌, ◌≤◌, Bool, true, false, not, ◌&&◌, eqb, ltb, sym, refl, ap, ◌∙◌, ⊎_elim, arith, pow_pos, pow_mono}
 use native.Mathlib.Nat.{div-eq_of_lt}
 use lib.Bits.{bit_and}
 use Rattle.std.proofs.lemmas.Nat.{and_le_l, le-div}
-use Rattle.std.proofs.lemmas.Bool.{both_ways, cases_Bool, cases_lt, eq-eqb, eqb-true, eqb-false, ne_eqb, lt-ltb, le-ltb, ltb-true, ltb-false, not-true, not_from_false, and_parts, and_from}
+use Rattle.std.proofs.lemmas.Bool.{both_ways, cases_Bool, cases_lt, eq-eqb, eqb-true, eqb-false, ne_eqb, le-ltb, ltb-false, not-true, not_from_false, and_parts, and_from}
 use Rattle.sets.specs.Below.{some_below}
 use Rattle.sets.specs.Members.{Members, has_bit, overlap, all_under}
 use Rattle.sets.proofs.Below.{some_is}

@@ -1,5 +1,5 @@
 -- What holds of some number below n, and the greatest value that a function has below n.
-use Rattle.std.specs.Prelude.{ℕ, zero, suc, max, Bool, true, false, ◌||◌}
+use Rattle.std.specs.Prelude.{ℕ, zero, suc, max, Bool, false, ◌||◌}
 
 abbrev pub some_below : ℕ → (ℕ → Bool) → Bool
 some_below zero p = false

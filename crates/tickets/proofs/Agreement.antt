@@ -1,11 +1,11 @@
 -- Answers as defined agree, since the definition's step depends on the setting, the state and the call alone.
-use Rattle.std.proofs.Common.{◌≡◌, Bool, sym, refl, ap, ◌∙◌}
+use Rattle.std.proofs.Common.{◌≡◌, Bool, sym, ap, ◌∙◌}
 use Rattle.cells.specs.declared.value.Value.{Ghosts as ValueGhosts}
 use Rattle.orders.specs.declared.class_order.ClassOrder.{Ghosts as OrderGhosts}
 use Rattle.rules.specs.declared.local_rule.LocalRule.{Ghosts as RuleGhosts}
 use Rattle.laws.specs.Setting.{Setting}
 use Rattle.laws.specs.State.{State}
-use Rattle.laws.specs.Calls.{Request, Reply, Call}
+use Rattle.laws.specs.Calls.{Request}
 use Rattle.laws.specs.Step.{Stepped, step}
 use Rattle.tickets.specs.Agreement.{AnswersAgree}
 

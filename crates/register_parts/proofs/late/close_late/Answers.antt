@@ -1,4 +1,4 @@
-use Rattle.std.proofs.Common.{◌≡◌, set, ap, ◌∙◌, arith}
+use Rattle.std.proofs.Common.{set, ap, ◌∙◌, arith}
 use Rattle.register_parts.specs.LateJobs.{closed_if_late}
 use Rattle.register_parts.specs.declared.bay.Bay.{Bay}
 use Rattle.register_parts.specs.declared.bay.Bay.TheVariants.{Free}

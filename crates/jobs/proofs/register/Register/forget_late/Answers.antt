@@ -1,4 +1,4 @@
-use Rattle.std.proofs.Common.{◌≡◌, ℕ, Bool, get_or, sym, refl, ap, ◌∙◌, arith}
+use Rattle.std.proofs.Common.{◌≡◌, ℕ, Bool, get_or, sym, ◌∙◌, arith}
 use Rattle.rules.specs.Claims.{Claims}
 use Rattle.jobs.specs.Represents.{claims_in}
 use Rattle.jobs.specs.Parts.{class_in}

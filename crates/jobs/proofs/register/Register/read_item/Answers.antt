@@ -1,14 +1,13 @@
 use Rattle.std.proofs.Common.{◌≡◌, ◌<◌, ltb, length, Err, sym, ap, ◌∙◌, arith, rules}
 use Rattle.std.proofs.lemmas.Result.{err_from_is_err_and}
 use Rattle.rules.specs.declared.access.Access.TheVariants.{Read}
-use Rattle.laws.specs.Calls.{Request, Reply, by, read, got, refused, not_dominated, no_such_item}
+use Rattle.laws.specs.Calls.{by, read, got}
 use Rattle.register_parts.specs.FaultNumbers.{fault_of_rule}
 use Rattle.jobs.specs.Faults.{read_reply}
 use Rattle.jobs.specs.Lent.{none}
 use Rattle.jobs.specs.Parts.{class_in}
 use Rattle.jobs.specs.declared.memory.Memory.{Memory}
-use Rattle.jobs.specs.declared.register.Register.{Register}
-use Rattle.jobs.proofs.Exits.{Exit, at_register, at_reply}
+use Rattle.jobs.proofs.Exits.{at_register, at_reply}
 use Rattle.jobs.proofs.Entrance.{through_job, outside_job, claims_here}
 use Rattle.jobs.proofs.LentChanges.{nothing_changed, rule_becomes_changed}
 use Rattle.jobs.proofs.ClaimReplies.{claim_made, claim_denied}

@@ -1,4 +1,4 @@
-use Rattle.std.proofs.Common.{◌≡◌, ℕ, ◌<◌, ◌≤◌, subst, arith}
+use Rattle.std.proofs.Common.{◌≡◌, ℕ, ◌<◌, subst, arith}
 use Rattle.jobs.specs.Sweeps.{SweptBelow}
 use Rattle.jobs.proofs.SweptClasses.{swept_none, swept_next}
 use Rattle.jobs.proofs.register.Register.sweep.Goals as goal

@@ -1,4 +1,4 @@
-use Rattle.std.proofs.Common.{◌≡◌, suc, Bool, cond, Err, sym, ap, ◌∙◌}
+use Rattle.std.proofs.Common.{suc, Bool, cond, Err, sym, ap, ◌∙◌}
 use Rattle.std.proofs.lemmas.Result.{err_from_is_err_and}
 use Rattle.register_parts.specs.ClockCalls.{Shows}
 use Rattle.jobs.specs.Faults.{fault_reply, tick_reply}

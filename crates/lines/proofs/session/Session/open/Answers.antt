@@ -1,4 +1,4 @@
-use Rattle.std.proofs.Common.{◌≡◌, Some, Ok, Err, sym, refl, ap, ◌∙◌, subst}
+use Rattle.std.proofs.Common.{◌≡◌, Ok, Err, sym, ap, ◌∙◌, subst}
 use Rattle.std.proofs.lemmas.Result.{err_from_is_err_and}
 use Rattle.orders.specs.declared.chosen_order.ChosenOrder.{ChosenOrder}
 use Rattle.jobs.specs.declared.register.Register.{Register}
@@ -7,7 +7,6 @@ use Rattle.lines.specs.Plans.{draft_of}
 use Rattle.lines.specs.Replies.{told}
 use Rattle.lines.specs.Sessions.{phase_of}
 use Rattle.lines.specs.Supplies.{rooms_of}
-use Rattle.lines.specs.declared.session.Session.{Session}
 use Rattle.lines.specs.declared.stage.Stage.TheVariants.{Serving}
 use Rattle.lines.specs.declared.supplied.Supplied.{Supplied}
 use Rattle.lines.proofs.MeetingAnswers.{Meets}

@@ -1,8 +1,6 @@
-use Rattle.std.proofs.Common.{◌≡◌, ℕ, ◌-◌, List, ◌++◌, length, take, drop, sym, refl, ap, ◌∙◌, subst, arith}
-use borrow.Rule.Slice.PartMut.{put_mid}
+use Rattle.std.proofs.Common.{◌-◌, length, take, drop, refl}
 use Rattle.std.proofs.lemmas.List.{take_rest}
-use Rattle.lines.specs.NextLines.{LineAnswered, NothingDone}
-use Rattle.lines.proofs.Running.{starts, goes_on, Ended, ended}
+use Rattle.lines.proofs.Running.{starts, goes_on, ended}
 use Rattle.lines.proofs.session.Session.serve.Goals as goal
 
 pub loop-line-init : goal.loop-line-init

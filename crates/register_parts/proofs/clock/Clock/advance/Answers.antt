@@ -1,4 +1,4 @@
-use Rattle.std.proofs.Common.{◌≡◌, ℕ, suc, ◌+◌, ◌<◌, true, ltb, List, length, get_or, Ok, sym, refl, ap, ◌∙◌, subst, mod-lt, add-one, arith}
+use Rattle.std.proofs.Common.{◌≡◌, ℕ, suc, ◌+◌, ◌<◌, true, ltb, List, length, get_or, Ok, sym, refl, ap, subst, mod-lt, add-one, arith}
 use Rattle.std.proofs.lemmas.Bool.{lt-ltb}
 use Rattle.laws.specs.Clock.{declared, last_tick, tick_grade}
 use Rattle.register_parts.proofs.Tables.{tick_table, tick_declares}

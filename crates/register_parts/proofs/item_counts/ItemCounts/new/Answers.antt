@@ -1,9 +1,9 @@
-use Rattle.std.proofs.Common.{◌≡◌, ℕ, ◌<◌, ◌≤◌, List, length, get_or, sym, refl, arith}
+use Rattle.std.proofs.Common.{◌≡◌, ℕ, ◌<◌, List, length, get_or, sym, arith}
 use lib.ListN.{length-map}
 use Rattle.std.proofs.lemmas.List.{get_or-map}
 use Rattle.register_parts.specs.CheckedCounts.{said}
 use Rattle.register_parts.specs.declared.class_setup.ClassSetup.{ClassSetup}
-use Rattle.register_parts.proofs.ItemCounting.{counted_none, counted_next, too_many_classes, too_many_items, too_many_in_all, all_counted, table_small, table_sum}
+use Rattle.register_parts.proofs.ItemCounting.{counted_next, too_many_classes, too_many_items, too_many_in_all, all_counted, table_small, table_sum}
 use Rattle.register_parts.proofs.item_counts.ItemCounts.new.Goals as goal
 
 -- As many counts as records, and each is that of its record.
