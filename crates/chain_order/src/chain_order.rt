@@ -1,5 +1,5 @@
 // A chain of classes. Its grades are the class numbers.
-ghost use Rattle.std.specs.Prelude.{◌≡◌, ◌≤◌, ◌&&◌, leb, if◌then◌else◌, Some, None, nat_le};
+ghost use Rattle.std.specs.Prelude.{◌≡◌, ◌≤◌, ◌&&◌, if◌then◌else◌, Some, None, nat_le};
 ghost use Rattle.std.specs.Option.{option_map};
 ghost use Rattle.std.proofs.Common.{rules, arith};
 
@@ -14,7 +14,7 @@ pub struct ChainOrder {
 impl ChainOrder {
     // A chain of 1 to 16 classes.
     pub fn new(count: u8) -> Option<ChainOrder>
-        ensures { option_map (λ s. s.count) result ≡ (if leb 1 count && nat_le count 16 then Some count else None) }
+        ensures { option_map (λ s. s.count) result ≡ (if nat_le 1 count && nat_le count 16 then Some count else None) }
     {
         if count < 1 || count > MAX_CLASSES {
             return None;

@@ -51,8 +51,10 @@ module _ {V R : Type 0} (at_cells at_pending : ℕ → Bool) (m : Memory V R) wh
     rules = λ k n d. get_or-set_other m.rules.now c k rule d (λ e. eqb-false c k n (sym e));
   }
 
-  pub rule_becomes_changed : (r : RuleGhosts R) (n c b : ℕ) → c < n → b < bay_count → (claims : Claims) (m' : Memory V R) → RuleBecomes r c claims m m'
+  pub rule_becomes_changed : (r : RuleGhosts R) (c : ℕ) (claims : Claims) (m' : Memory V R) → RuleBecomes r c claims m m' → ChangedOnly at_cells at_pending (eqb c) m m'
+  rule_becomes_changed r c claims m' z = subst (ChangedOnly at_cells at_pending (eqb c) m) (sym z.1) (one_rule_changed c z.0)
+
+  pub bay_rule_changed : (r : RuleGhosts R) (n c b : ℕ) → c < n → b < bay_count → (claims : Claims) (m' : Memory V R) → RuleBecomes r c claims m m'
       → ChangedOnly at_cells at_pending (if_bay n c b (eqb c)) m m'
-  rule_becomes_changed r n c b l h claims m' z =
-      changed_at_most (λ k e. e) (λ k e. e) (bay_names n c b (eqb c) l h)
-      (subst (ChangedOnly at_cells at_pending (eqb c) m) (sym z.1) (one_rule_changed c z.0))
+  bay_rule_changed r n c b l h claims m' z =
+      changed_at_most (λ k e. e) (λ k e. e) (bay_names n c b (eqb c) l h) (rule_becomes_changed r c claims m' z)

@@ -79,7 +79,7 @@ module _ {V : Type 0} (S : Setting V) where
   new_job t c update = updating None []
   new_job t c long = reading (declared_for S t c)
 
-  -- After t ticks, with Cells-of the cells of every class: class c, its state k, and the bay b.
+  -- After t ticks, with cells_of the cells of every class: class c, its state k, and the bay b.
   module _ (t : ℕ) (cells_of : ℕ → ℕ → Cell V) (c : ℕ) (k : Class V) (b : ℕ) where
     -- Begin: a free bay is opened.
     abbrev pub begins_in : Kind → Bay V → Outcome V

@@ -11,7 +11,7 @@ use Rattle.register_parts.specs.declared.bay.Bay.TheVariants.{Open}
 use Rattle.jobs.specs.declared.memory.Memory.{Memory}
 use Rattle.jobs.proofs.Exits.{at_register, at_both}
 use Rattle.jobs.proofs.Entrance.{Inside, through, outside}
-use Rattle.jobs.proofs.LentChanges.{nothing_changed, rule_becomes_changed, changed_at_most, bay_names}
+use Rattle.jobs.proofs.LentChanges.{nothing_changed, bay_rule_changed, changed_at_most, bay_names}
 use Rattle.jobs.proofs.ItemSums.{sum_in}
 use Rattle.jobs.proofs.Committing.{was_free, was_closed, was_long, was_refused, was_valid, own_cells_changed, settled_and_stored, number}
 use Rattle.jobs.proofs.register.Register.commit_job.Goals as goal
@@ -67,7 +67,7 @@ returns-in_default g c =
     let n : bay < length (class_in x class).bays = omega (arith, h.in_bays, c.end_job.ensures.bays) in
     let m' = c.end_job.new.memory in
     let z = at_register o g.V.Value r x m (by class bay commit) done m' c.end_job.ensures.state (was_long o g.V.Value r x m class bay l n c.in_default.field-0 h m' c.end_job.ensures.memory) in
-    record { reply = z.0; state = z.1; memory = rule_becomes_changed _ none m r _ class bay h.in_classes h.in_bays _ m' c.end_job.ensures.memory }
+    record { reply = z.0; state = z.1; memory = bay_rule_changed _ none m r _ class bay h.in_classes h.in_bays _ m' c.end_job.ensures.memory }
 
 pub end_job-requires-in-Err : goal.end_job-requires-in-Err
 end_job-requires-in-Err g c =
@@ -101,7 +101,7 @@ returns-in-Err g c =
     let m'' = c.end_job-in-Err.new.memory in
     let z = was_refused o g.V.Value r x m class bay l n c.in-Update.job h c.in-Err.fault c.in-Err.ensures.reply m' m'' c.in-Err.ensures.memory c.end_job-in-Err.ensures.memory in
     let z' = at_register o g.V.Value r x m (by class bay commit) (fault_reply c.in-Err.fault) m'' c.end_job-in-Err.ensures.state z.0 in
-    record { reply = z'.0; state = z'.1; memory = rule_becomes_changed _ none m r _ class bay h.in_classes h.in_bays _ m'' z.1 }
+    record { reply = z'.0; state = z'.1; memory = bay_rule_changed _ none m r _ class bay h.in_classes h.in_bays _ m'' z.1 }
 
 pub store_pending-requires : goal.store_pending-requires
 store_pending-requires g c =

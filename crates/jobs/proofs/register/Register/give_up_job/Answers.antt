@@ -6,7 +6,7 @@ use Rattle.jobs.specs.Lent.{none}
 use Rattle.jobs.specs.Parts.{class_in}
 use Rattle.jobs.proofs.Exits.{at_register}
 use Rattle.jobs.proofs.Entrance.{Inside, through, outside}
-use Rattle.jobs.proofs.LentChanges.{nothing_changed, rule_becomes_changed}
+use Rattle.jobs.proofs.LentChanges.{nothing_changed, bay_rule_changed}
 use Rattle.jobs.proofs.GivingUp.{was_closed, was_open}
 use Rattle.jobs.proofs.register.Register.give_up_job.Goals as goal
 
@@ -43,4 +43,4 @@ returns-in-Open g c =
     let n : c.args.bay < length (class_in x c.args.class).bays = omega (arith, h.in_bays, c.end_job.ensures.bays) in
     let z = at_register o g.V.Value g.R.LocalRule x m (by c.args.class c.args.bay give_up) done c.end_job.new.memory c.end_job.ensures.state
     (was_open o g.V.Value g.R.LocalRule x m c.args.class c.args.bay l n c.in-Open.field-0 h c.end_job.new.memory c.end_job.ensures.memory) in
-    record { reply = z.0; state = z.1; memory = rule_becomes_changed none none m g.R.LocalRule _ c.args.class c.args.bay h.in_classes h.in_bays _ c.end_job.new.memory c.end_job.ensures.memory }
+    record { reply = z.0; state = z.1; memory = bay_rule_changed none none m g.R.LocalRule _ c.args.class c.args.bay h.in_classes h.in_bays _ c.end_job.new.memory c.end_job.ensures.memory }

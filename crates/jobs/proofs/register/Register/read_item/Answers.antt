@@ -9,7 +9,7 @@ use Rattle.jobs.specs.Parts.{class_in}
 use Rattle.jobs.specs.declared.memory.Memory.{Memory}
 use Rattle.jobs.proofs.Exits.{at_register, at_reply}
 use Rattle.jobs.proofs.Entrance.{through_job, outside_job, claims_here}
-use Rattle.jobs.proofs.LentChanges.{nothing_changed, rule_becomes_changed}
+use Rattle.jobs.proofs.LentChanges.{nothing_changed, bay_rule_changed}
 use Rattle.jobs.proofs.ClaimReplies.{claim_made, claim_denied}
 use Rattle.jobs.proofs.ReadingItems.{reads, not_below, no_item, at_long, below, own_pending, own_denied, own_claimed}
 use Rattle.jobs.proofs.register.Register.read_item.Goals as goal
@@ -91,7 +91,7 @@ returns-in_err-claim_read-in-Update g c =
     record {
       reply = z.0;
       state = z.1;
-      memory = rule_becomes_changed none none m g.R.LocalRule _ c.args.class c.args.bay h.in_classes h.in_bays _ c.claim_read.new.self c.claim_read.ensures.memory;
+      memory = bay_rule_changed none none m g.R.LocalRule _ c.args.class c.args.bay h.in_classes h.in_bays _ c.claim_read.new.self c.claim_read.ensures.memory;
     }
 
 pub returns-in_ok-claim_read-in-Update : goal.returns-in_ok-claim_read-in-Update
@@ -115,7 +115,7 @@ returns-in_ok-claim_read-in-Update g c =
     record {
       reply = z.0;
       state = z.1;
-      memory = rule_becomes_changed none none m g.R.LocalRule _ c.args.class c.args.bay h.in_classes h.in_bays _ c.claim_read.new.self c.claim_read.ensures.memory;
+      memory = bay_rule_changed none none m g.R.LocalRule _ c.args.class c.args.bay h.in_classes h.in_bays _ c.claim_read.new.self c.claim_read.ensures.memory;
     }
 
 pub returns-then-not-dominates : goal.returns-then-not-dominates

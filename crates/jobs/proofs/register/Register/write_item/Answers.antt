@@ -14,7 +14,7 @@ use Rattle.register_parts.specs.declared.bay.Bay.TheVariants.{Open}
 use Rattle.register_parts.specs.declared.bay.Job.{Job}
 use Rattle.jobs.proofs.Exits.{Exit, at_both}
 use Rattle.jobs.proofs.Entrance.{Inside, through_job, outside_job}
-use Rattle.jobs.proofs.LentChanges.{nothing_changed, rule_becomes_changed, changed_at_most, bay_names}
+use Rattle.jobs.proofs.LentChanges.{nothing_changed, bay_rule_changed, changed_at_most, bay_names}
 use Rattle.jobs.proofs.ClaimReplies.{claim_made, claim_denied}
 use Rattle.register_parts.proofs.ItemPlaces.{place_most, room_left, no_room_left}
 use Rattle.jobs.proofs.Writing.{writes, is_long, no_item, nothing_to_write, too_many, is_denied, is_written, claimed_and_pending, one_place_changed}
@@ -125,7 +125,7 @@ returns-in_err-claim_write g c =
     record {
       reply = ap done_reply (p.1 ∙ ap Err p.2) ∙ ap as_reply d.2 ∙ z.0;
       state = z.1;
-      memory = rule_becomes_changed none _ m r _ class bay h.in_classes h.in_bays _ m' w;
+      memory = bay_rule_changed none _ m r _ class bay h.in_classes h.in_bays _ m' w;
     }
 
 pub put_item-requires : goal.put_item-requires
