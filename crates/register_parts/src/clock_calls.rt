@@ -45,16 +45,8 @@ impl Clock {
             return Err(JobFault::ClockAtEnd);
         }
         let next = self.next();
-        declare(&mut self.numbers, next);
+        self.numbers[next.grade as usize] = next.number;
         self.ticks += 1;
         Ok(next)
     }
-}
-
-// Puts a number that is declared at its grade.
-fn declare(numbers: &mut [u32; 24], next: Declaration)
-    requires { next.grade < 24 }
-    ensures state { numbers.new ≡ slice_set numbers.old next.grade next.number }
-{
-    numbers[next.grade as usize] = next.number;
 }

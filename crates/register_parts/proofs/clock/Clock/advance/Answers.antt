@@ -1,6 +1,6 @@
-use Rattle.std.proofs.Common.{◌≡◌, ℕ, suc, ◌+◌, ◌<◌, true, ltb, List, length, get_or, Ok, sym, refl, ap, subst, mod-lt, add-one, arith}
+use Rattle.std.proofs.Common.{◌≡◌, suc, ◌<◌, true, ltb, length, Ok, refl, ap, mod-lt, add-one, arith}
 use Rattle.std.proofs.lemmas.Bool.{lt-ltb}
-use Rattle.laws.specs.Clock.{declared, last_tick, tick_grade}
+use Rattle.laws.specs.Clock.{last_tick, tick_grade}
 use Rattle.register_parts.proofs.Tables.{tick_table, tick_declares}
 use Rattle.register_parts.proofs.clock.Clock.advance.Goals as goal
 
@@ -11,7 +11,7 @@ invariant_of-self c =
     let within : tick_grade x.top x.ticks < length x.numbers = omega (arith, x.low) in record {
       low = x.low;
       within = omega (arith, c.if-self-ge-LAST_TICK.false);
-      counted = subst (λ (table : List ℕ). (g : ℕ) → get_or table g 0 ≡ declared x.top g (x.ticks + 1)) (sym c.declare.ensures.state) (tick_table x.numbers x.top x.ticks c.next-next.result c.next-next.ensures.reply within x.counted);
+      counted = tick_table x.numbers x.top x.ticks c.next-next.result c.next-next.ensures.reply within x.counted;
     }
 
 pub returns : goal.returns
