@@ -9,9 +9,9 @@ A name is renamed where it is declared in specs/ or proofs/ of a crate here, or 
 
 import os
 import re
+import subprocess
 import sys
 
-KIT = "/opt/rattle/rattle"
 STOP = r"\s()\[\]{};,.λ⟦⟧⌜⌝\"↦"
 TOKEN = re.compile(rf"(?<![^{STOP}])[^{STOP}]+")
 DASHED = re.compile(r"^[^\W\d][\w'≠≡ℕ]*(?:[-≠][\w'≠≡ℕ]+)+$")
@@ -56,8 +56,10 @@ def declared(text):
 
 
 def library():
+    """The names with a dash that the kit's own libraries declare."""
+    kit = os.path.dirname(subprocess.run(["rt", "doc"], stdout=subprocess.PIPE, text=True, check=True).stdout.strip())
     names = set()
-    for path in files(KIT, ".antt"):
+    for path in files(f"{kit}/rattle", ".antt"):
         names |= {n for n in declared(read(path)) if DASHED.match(n)}
     return names
 
