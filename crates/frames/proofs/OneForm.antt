@@ -23,20 +23,20 @@ decoded_of_digits bytes fits =
     ∙ pairs_of_digits bytes fits.bounded
 
 -- The bytes of a text of paired digits: its digits are theirs, and they are bytes, half as many.
-record Bytes_of (text bytes : List ℕ) : Type 0 where
+record BytesOf (text bytes : List ℕ) : Type 0 where
   same_digits : digits bytes ≡ text
   bounded : AllByRecursion (λ b. b < 256) bytes
   half : 2 * length bytes ≡ length text
 
-bytes_of_pairs : (text bytes : List ℕ) → pairs text ≡ Some bytes → Bytes_of text bytes
+bytes_of_pairs : (text bytes : List ℕ) → pairs text ≡ Some bytes → BytesOf text bytes
 bytes_of_pairs [] [] e = record { same_digits = refl; bounded = tt; half = refl }
 bytes_of_pairs [] (b ∷ bytes) e = absurd (grind arith)
 bytes_of_pairs (first ∷ []) bytes e = absurd (grind arith)
 bytes_of_pairs (first ∷ second ∷ text) bytes e = go (byte_of first second) (pairs text) refl refl (bytes_of_pairs text) e
   where
     go : (front : Option ℕ) (rest : Option (List ℕ)) → byte_of first second ≡ front → pairs text ≡ rest
-        → ((tail : List ℕ) → pairs text ≡ Some tail → Bytes_of text tail)
-        → with_byte front rest ≡ Some bytes → Bytes_of (first ∷ second ∷ text) bytes
+        → ((tail : List ℕ) → pairs text ≡ Some tail → BytesOf text tail)
+        → with_byte front rest ≡ Some bytes → BytesOf (first ∷ second ∷ text) bytes
     go None rest p q more e = absurd (grind arith)
     go (Some b) None p q more e = absurd (grind arith)
     go (Some b) (Some tail) p q more e =

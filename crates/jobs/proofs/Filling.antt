@@ -12,7 +12,7 @@ use Rattle.rules.specs.Calls.{fresh_claims}
 use Rattle.rules.specs.declared.local_rule.LocalRule.{Ghosts as RuleGhosts}
 use Rattle.laws.specs.Setting.{Setting, sum_below}
 use Rattle.laws.specs.State as definition
-use Rattle.laws.specs.State.{Class, State, free, fresh_class, fresh_state}
+use Rattle.laws.specs.State.{Class, State, free, fresh_class}
 use Rattle.laws.specs.History.{Stands}
 use Rattle.jobs.specs.Represents.{no_state, bay_of, bay_values, class_of, claims_in, setting, state, enough}
 use Rattle.jobs.specs.SetUp.{fresh_class_state}

@@ -11,7 +11,7 @@ use Rattle.rules.specs.Claims.{Claims, without}
 use Rattle.rules.specs.declared.local_rule.LocalRule.{Ghosts as RuleGhosts}
 use Rattle.laws.specs.Setting.{Setting}
 use Rattle.laws.specs.State as definition
-use Rattle.laws.specs.State.{Class, State, closed, fresh_class}
+use Rattle.laws.specs.State.{Class, closed, fresh_class}
 use Rattle.laws.specs.Clock.{late, swept}
 use Rattle.jobs.specs.Represents.{no_state, bay_of, bay_values, class_of, classes_of, claims_in, setting, state}
 use Rattle.jobs.specs.Lent.{with_rules, RuleBecomes}

@@ -1,5 +1,5 @@
 // Set-up of a register over any order of classes.
-ghost use Rattle.std.specs.Prelude.{◌≡◌, ◌≤◌};
+ghost use Rattle.std.specs.Prelude.{◌≤◌};
 ghost use Rattle.register_parts.specs.ClockCalls.{Shows};
 ghost use Rattle.register_parts.specs.CheckedCounts.{said};
 ghost use Rattle.jobs.specs.SetUp.{counts_for, SetUp, TopReached};

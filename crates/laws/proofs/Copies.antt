@@ -25,9 +25,9 @@ module _ {A : Type 0} (p : A → Bool) where
   kept_by_none [] a = refl
   kept_by_none (x ∷ xs) a = rw (a.0, kept_by_none xs a.1)
 
-pub append-nil : {A : Type 0} (xs : List A) → xs ++ [] ≡ xs
-append-nil [] = refl
-append-nil {A} (x ∷ xs) = ap {B = List A} (λ ys. x ∷ ys) (append-nil xs)
+pub append_nil : {A : Type 0} (xs : List A) → xs ++ [] ≡ xs
+append_nil [] = refl
+append_nil {A} (x ∷ xs) = ap {B = List A} (λ ys. x ∷ ys) (append_nil xs)
 
 module _ {V : Type 0} where
   -- What a job's operations do to the copy at one class and item.

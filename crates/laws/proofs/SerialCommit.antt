@@ -15,7 +15,7 @@ use Rattle.laws.proofs.Dominance.{inside, lower}
 use Rattle.laws.proofs.ClockLaws.{declared_falls, declared_near}
 use Rattle.laws.proofs.Bays.{written}
 use Rattle.laws.proofs.Cells.{head, Falls, stored_falls, stored_head, stored_newest, stored_past, stored_before}
-use Rattle.laws.proofs.Copies.{all_both, all_left, all_right, kept_by_none, append-nil, after_own, after_other, after_none, jobs_same, jobs_append, Quiet, jobs_quiet, jobs_keep, reads_append, reads_left, reads_right, Blind, blind_jobs}
+use Rattle.laws.proofs.Copies.{all_both, all_left, all_right, kept_by_none, append_nil, after_own, after_other, after_none, jobs_same, jobs_append, Quiet, jobs_quiet, jobs_keep, reads_append, reads_left, reads_right, Blind, blind_jobs}
 use Rattle.laws.proofs.Order.{Split, split, all_insert, ordered_insert}
 use Rattle.laws.proofs.Places.{declared_at, WellPlaced, well_placed_later, CommitsNow, own_first, readers_first, below_before, below_after, long_before, long_after_below, long_after_own}
 use Rattle.laws.proofs.Serial.{wrote_by, view, Serial, quiet_other, quiet_long, quiet_wrote_by, InView, in_view, blind_of}
@@ -50,7 +50,7 @@ module _ {V : Type 0} (S : Setting V) (L : Lawful S) (t : ℕ) (floor : ℕ → 
   copy_at d a i bef aft =
       ap (λ (xs : List (Committed V)). view S d a xs i) parts.whole
       ∙ ap (λ (xs : List (Committed V)). after_jobs (start_copy S) xs d i)
-      (filter-append p pre post ∙ ap {B = List (Committed V)} (λ (xs : List (Committed V)). filter p pre ++ xs) none_post ∙ append-nil (filter p pre))
+      (filter-append p pre post ∙ ap {B = List (Committed V)} (λ (xs : List (Committed V)). filter p pre ++ xs) none_post ∙ append_nil (filter p pre))
       ∙ jobs_keep (start_copy S) p pre d i quiet_pre
     where
       p : Committed V → Bool

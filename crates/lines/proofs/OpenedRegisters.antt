@@ -29,9 +29,9 @@ count_at (i ∷ items) k zero = refl
 count_at (i ∷ items) k (suc c) = count_at items k c
 
 module _ {O V R : Type 0} (o : OrderGhosts O) (v : ValueGhosts V) (r : RuleGhosts R) (order : O) (items : List ℕ) (variant : ℕ)
-    (x : Register O) (range : InRange (o.classes order) items) (Made-so : SetUp o order (counts_for (o.classes order) items) variant (Ok x)) where
+    (x : Register O) (range : InRange (o.classes order) items) (made_so : SetUp o order (counts_for (o.classes order) items) variant (Ok x)) where
   w : FreshRegister o order (for_16 items) variant x
-  w = subst (λ (z : Result (List ℕ) SetUpFault). SetUp o order z variant (Ok x)) range Made-so
+  w = subst (λ (z : Result (List ℕ) SetUpFault). SetUp o order z variant (Ok x)) range made_so
 
   set_up_so : setting o v r x ≡ set_up_with o v r order items variant
   set_up_so =

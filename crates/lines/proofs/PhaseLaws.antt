@@ -63,11 +63,11 @@ words_start d S l g e = (stands_first S l, laws_here S [] (fresh_state S) (stand
 pub slips_start : (d : Draft) (S : Setting Slip) → Lawful S → KeepsSessionLaws (planning d) (started Slips ∷ []) (serving_slips S (fresh_state S))
 slips_start d S l g e = (stands_first S l, laws_here S [] (fresh_state S) (stands_first S l))
 
-all-noted-++ : (es fs : List Event) (g : Log) → all_noted (es ++ fs) g ≡ all_noted fs (all_noted es g)
-all-noted-++ [] fs g = refl
-all-noted-++ (e ∷ es) fs g = all-noted-++ es fs (noted e g)
+all_noted_append : (es fs : List Event) (g : Log) → all_noted (es ++ fs) g ≡ all_noted fs (all_noted es g)
+all_noted_append [] fs g = refl
+all_noted_append (e ∷ es) fs g = all_noted_append es fs (noted e g)
 
 -- What one line after another keeps, they keep together.
 pub keeps_both : (p q r : Phase) (es fs : List Event) → KeepsSessionLaws p es q → KeepsSessionLaws q fs r → KeepsSessionLaws p (es ++ fs) r
 keeps_both p q r es fs k l g d =
-    subst (λ (z : Log). SessionStands r z × SessionLaws r z) (sym (all-noted-++ es fs g)) (l (all_noted es g) (k g d).0)
+    subst (λ (z : Log). SessionStands r z × SessionLaws r z) (sym (all_noted_append es fs g)) (l (all_noted es g) (k g d).0)

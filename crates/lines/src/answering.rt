@@ -1,5 +1,5 @@
 // How a session answers one frame, phase by phase.
-ghost use Rattle.std.specs.Prelude.{◌≡◌, ◌<◌, length};
+ghost use Rattle.std.specs.Prelude.{◌≡◌};
 ghost use Rattle.lines.specs.Answers.{Leaves};
 ghost use Rattle.lines.specs.Phases.{in_opening, class_answer, start_answer, rule_answer, in_phase, answered};
 ghost use Rattle.lines.specs.Plans.{draft_of};

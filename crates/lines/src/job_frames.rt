@@ -1,6 +1,4 @@
 // Job frames of any length: those of another length than their operation wants are refused.
-ghost use Rattle.std.specs.Prelude.{◌≡◌};
-ghost use Rattle.jobs.specs.Represents.{setting, state};
 ghost use Rattle.lines.specs.JobFrames.{FrameServed};
 
 use crate::job_lines::serve_job;

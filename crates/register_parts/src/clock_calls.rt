@@ -1,5 +1,5 @@
 // Calls on a clock: its declared numbers, and one more tick.
-ghost use Rattle.std.specs.Prelude.{◌≡◌, ◌<◌, slice_set};
+ghost use Rattle.std.specs.Prelude.{◌≡◌};
 ghost use Rattle.laws.specs.Clock.{declared as declared_number};
 ghost use Rattle.register_parts.specs.ClockCalls.{Shows, next_declaration, advance_reply, advanced_ticks, Declares};
 

@@ -4,11 +4,6 @@ use Rattle.orders.specs.Labels.{lowest, label_grade}
 use Rattle.orders.specs.LabelledOrders.{labels_of}
 use Rattle.orders.proofs.labelled_order.classes.LabelledOrderClassOrder.grade.Goals as goal
 
-pub grade-requires : goal.grade-requires
-grade-requires c =
-    let s = c.args.self.now in
-    omega (arith, s.labelled.3 c.args.c, ap (λ l. l.rank) (get_or-take s.count s.labels c.args.c lowest c.if-c-self.true))
-
 pub returns-then-c-self : goal.returns-then-c-self
 returns-then-c-self c =
     let s = c.args.self.now in
