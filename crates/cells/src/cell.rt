@@ -1,5 +1,5 @@
 // A cell keeps one to three versions of an item. Their numbers fall strictly from the newest on; no cell in memory is otherwise.
-ghost use Rattle.std.specs.Prelude.{◌≡◌, true, ◌∷◌};
+ghost use Rattle.std.specs.Prelude.{◌≡◌, ⊤, true, ◌∷◌};
 ghost use Rattle.cells.specs.Versions.{falling};
 ghost use Rattle.cells.specs.Listed.{listed};
 
@@ -14,7 +14,12 @@ pub struct Cell<V> {
     ghost ordered: { falling (newest ∷ listed older) ≡ true },
 }
 
+// A copy is the same cell, and never fails; `Copy` needs this, and it cannot be derived over the invariant.
 impl<V: Copy> Clone for Cell<V> {
+    ghost is_clone = { λ x y. y ≡ x };
+
+    ghost is_infallible = { λ _. ⊤ };
+
     fn clone(&self) -> Result<Cell<V>, AllocError> {
         Ok(*self)
     }
