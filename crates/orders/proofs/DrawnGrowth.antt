@@ -2,7 +2,7 @@
 use Rattle.std.proofs.Common.{◌≡◌, ℕ, zero, suc, ◌^◌, ◌<◌, ◌≤◌, Bool, true, false, cond, not, ◌&&◌, ◌||◌, eqb, ltb, List, [], ◌∷◌, ◌++◌, length, get_or, set, replicate, sym, refl, ap, ◌∙◌, subst, ap₂, ⊎_elim, arith, get_or-set_other, get_or-set_same}
 use Rattle.std.proofs.lemmas.Bool.{eqb-true, eqb-false, le-ltb, and_from, cases_order, cases_lt, both_ways}
 use Rattle.sets.specs.Below.{some_below, greatest_below}
-use Rattle.sets.specs.Members.{Members, has_bit, members, nothing, with_member, all_under}
+use Rattle.sets.specs.Members.{Members, has_bit, members, with_member, all_under}
 use Rattle.sets.specs.declared.small_set.SmallSet.{SmallSet}
 use Rattle.sets.proofs.Below.{some_is, some_same, greatest_same}
 use Rattle.sets.proofs.Bits.{has_past, has_none}
@@ -84,10 +84,13 @@ module _ (n : ℕ) (w : List SmallSet) (len : length w ≡ n) (s : SmallSet) whe
     )
 
 -- The first class, which has nothing below it.
-module _ (none s : SmallSet) (E : members none ≡ nothing) (z : s.bits ≡ 0) (row : SmallSet) (R : members row ≡ with_member 0 (members none)) where
+module _ (none : SmallSet) (z : none.bits ≡ 0) (row : SmallSet) (R : members row ≡ with_member 0 (members none)) where
+  empty : (d : ℕ) → members none d ≡ false
+  empty d = ap (λ x. has_bit x d) z ∙ has_none d
+
   all_empty : (n c d : ℕ) → members (set_at (replicate n none) c) d ≡ false
   all_empty zero c d = has_none d
-  all_empty (suc n) zero d = ap (λ (p : Members). p d) E
+  all_empty (suc n) zero d = empty d
   all_empty (suc n) (suc c) d = all_empty n c d
 
   all_zero : (n c : ℕ) → get_or {A = ℕ} (replicate n 0) c 0 ≡ 0
@@ -95,10 +98,10 @@ module _ (none s : SmallSet) (E : members none ≡ nothing) (z : s.bits ≡ 0) (
   all_zero (suc n) zero = refl
   all_zero (suc n) (suc c) = all_zero n c
 
-  pub first_falling : Falling (s ∷ [])
-  first_falling = still_falling 0 [] refl s (λ c e k. absurd (both_ways (link [] c e) (has_none e) k)) (λ e k. absurd (both_ways (members s e) (ap (λ x. has_bit x e) z ∙ has_none e) k))
+  pub first_falling : Falling (none ∷ [])
+  first_falling = still_falling 0 [] refl none (λ c e k. absurd (both_ways (link [] c e) (has_none e) k)) (λ e k. absurd (both_ways (members none e) (empty e) k))
 
-  pub first_tables : Tables (s ∷ []) (set (replicate 16 none) 0 row) (replicate 16 0)
+  pub first_tables : Tables (none ∷ []) (set (replicate 16 none) 0 row) (replicate 16 0)
   first_tables =
-      still_tables 0 [] refl s (replicate 16 none) (replicate 16 0) (all_empty 16, all_zero 16) row 0 (omega arith) (omega arith)
-      (λ d. ap (λ (p : Members). p d) R ∙ ap (λ x. eqb 0 d || x) (ap (λ (p : Members). p d) E)) refl
+      still_tables 0 [] refl none (replicate 16 none) (replicate 16 0) (all_empty 16, all_zero 16) row 0 (omega arith) (omega arith)
+      (λ d. ap (λ (p : Members). p d) R ∙ ap (λ x. eqb 0 d || x) (empty d)) refl

@@ -1,5 +1,8 @@
 -- The greatest value below n is reached and not exceeded.
-use Rattle.std.proofs.Common.{◌≡◌, ℕ, ◌<◌, ◌≤◌, sym, ◌∙◌, ⊎_elim, arith}
+use Rattle.std.proofs.Common.{◌≡◌, ℕ, zero, suc, ◌<◌, ◌≤◌, max, List, [], ◌∷◌, ◌++◌, map, unwrap_or, sym, refl, ap, ◌∙◌, ⊎_elim, add-one, arith}
+use Rattle.std.specs.List.{reduce, range_with_len}
+use Rattle.std.proofs.lemmas.List.FromFn.{map-range_with_len_more}
+use Rattle.std.proofs.lemmas.List.Sums.{fold-append}
 use Rattle.sets.specs.Below.{greatest_below}
 use Rattle.sets.proofs.Below.{greatest_at, greatest_gives}
 use Rattle.orders.specs.Grades.{Greatest}
@@ -12,3 +15,16 @@ is_greatest n f v h e = record {
       (greatest_gives f n);
   not_exceeded = λ k l. omega (arith, greatest_at f n k l);
 }
+
+-- The greatest of a list, 0 for none, and one more element at its end.
+one_more : (w : List ℕ) (x : ℕ) → unwrap_or (reduce max (w ++ (x ∷ []))) 0 ≡ max x (unwrap_or (reduce max w) 0)
+one_more [] x = omega arith
+one_more (y ∷ w) x = fold-append max y w (x ∷ []) ∙ omega arith
+
+pub greatest_from_range : (n : ℕ) (f : ℕ → ℕ) → unwrap_or (reduce max (map f (range_with_len 0 n))) 0 ≡ greatest_below n f
+greatest_from_range zero f = refl
+greatest_from_range (suc n) f =
+    ap (λ k. unwrap_or (reduce max (map f (range_with_len 0 k))) 0) (sym (add-one n))
+    ∙ ap (λ w. unwrap_or (reduce max w) 0) (map-range_with_len_more f 0 n n (omega arith))
+    ∙ one_more (map f (range_with_len 0 n)) (f n)
+    ∙ ap (max (f n)) (greatest_from_range n f)

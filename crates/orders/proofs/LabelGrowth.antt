@@ -1,7 +1,8 @@
 -- One more label: what an order keeps still holds.
 use Rattle.std.proofs.Common.{◌≡◌, ℕ, suc, ◌^◌, ◌<◌, ◌≤◌, true, false, eqb, ◌⊎◌, List, [], ◌∷◌, ◌++◌, length, sym, ap, ◌∙◌, subst, inl, inr, ⊎_elim, arith}
 use Rattle.std.proofs.lemmas.Bool.{and_from, eq-eqb, cases_order, both_ways}
-use Rattle.sets.proofs.Below.{some_is}
+use Rattle.std.proofs.lemmas.Option.{slice_get-get_or}
+use Rattle.std.proofs.lemmas.Map.Keys.{any_passes_from_place}
 use Rattle.orders.specs.Labels.{lowest, label_at, same_label, Labelled, Distinct}
 use Rattle.orders.specs.LabelledOrders.{used}
 use Rattle.orders.specs.declared.label.Label.{Label}
@@ -29,7 +30,7 @@ module _ (w : List Label) (l : Label) where
 
   module _ (u : used w l ≡ false) where
     other : (c : ℕ) → c < length w → label_at w c ≡ l → ⊥
-    other c h e = both_ways _ u ((some_is (λ c. same_label (label_at w c) l) (length w)).1 (c, h, same (label_at w c) l e))
+    other c h e = both_ways _ u (any_passes_from_place (λ x. same_label x l) w c (label_at w c) (slice_get-get_or w c lowest h) (same (label_at w c) l e))
 
     pub still_distinct : Distinct w → Distinct (w ++ (l ∷ []))
     still_distinct D c d a = go (place c a.0) (place d a.1)

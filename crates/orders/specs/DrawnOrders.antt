@@ -1,15 +1,16 @@
 -- How a drawn order is built up.
-use Rattle.std.specs.Prelude.{ℕ, cond, List, [], ◌∷◌, ◌++◌, length, take, Ok, Err, Result, ◌==◌, nat_lt}
+use Rattle.std.specs.Prelude.{ℕ, cond, List, [], ◌∷◌, ◌++◌, length, Ok, Err, Result, ◌==◌, nat_lt}
 use Rattle.sets.specs.Members.{has_bit, all_under}
 use Rattle.sets.specs.declared.small_set.SmallSet.{SmallSet}
 use Rattle.orders.specs.Links.{bit_set}
+use Rattle.orders.specs.DrawnClasses.{sets_below}
 use Rattle.orders.specs.declared.drawn_order.DrawnOrder.{DrawnOrder}
 use Rattle.orders.specs.declared.order_fault.OrderFault.{OrderFault}
 use Rattle.orders.specs.declared.order_fault.OrderFault.TheVariants.{TooManyClasses, NotSmaller}
 
 -- For each class, from class 0 up, the set of those directly below it.
 abbrev pub drawing_of : DrawnOrder → List SmallSet
-drawing_of s = take s.count s.below
+drawing_of s = sets_below s.count s.classes
 
 -- Nothing is smaller than class 0.
 abbrev pub first_set : ℕ → Result (List SmallSet) OrderFault

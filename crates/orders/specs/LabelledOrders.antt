@@ -1,7 +1,7 @@
 -- How an order of labels is built up.
 use Rattle.std.specs.Prelude.{ℕ, Bool, cond, List, [], ◌∷◌, ◌++◌, length, take, Ok, Err, Result, nat_le, nat_lt}
-use Rattle.sets.specs.Below.{some_below}
-use Rattle.orders.specs.Labels.{label_at, same_label}
+use Rattle.std.specs.List.{list_any}
+use Rattle.orders.specs.Labels.{same_label}
 use Rattle.orders.specs.declared.label.Label.{Label}
 use Rattle.orders.specs.declared.labelled_order.LabelledOrder.{LabelledOrder}
 use Rattle.orders.specs.declared.order_fault.OrderFault.{OrderFault}
@@ -16,7 +16,7 @@ make_label rank compartments = record { rank = rank; compartments = compartments
 
 -- Whether some class has this label.
 abbrev pub used : List Label → Label → Bool
-used w l = some_below (length w) (λ c. same_label (label_at w c) l)
+used w l = list_any (λ c. same_label c l) w
 
 abbrev pub first_label : ℕ → ℕ → Result (List Label) OrderFault
 first_label rank compartments = cond (nat_le rank 15) (Ok (make_label rank compartments ∷ [])) (Err RankTooHigh)

@@ -1,6 +1,7 @@
 pub mod Grades
 pub mod Links
 pub mod Paths
+pub mod DrawnClasses
 pub mod DrawnOrders
 pub mod Labels
 pub mod LabelledOrders

@@ -17,7 +17,7 @@ pub enum ChosenOrder {
     Labelled(LabelledOrder),
 }
 
-// It answers as the order that was chosen does.
+// It answers as the order that was chosen does. One match for all three would be no plainer: it would need a closure for each kind of order, and a value of `dyn` has no place in an order that is `Copy`.
 impl ClassOrder for ChosenOrder {
     ghost classes = { chosen_classes };
 

@@ -1,6 +1,6 @@
 // An order that is drawn: each class names the classes directly below it.
-ghost use Rattle.std.specs.Prelude.{take};
 ghost use Rattle.orders.specs.Links.{Drawn, Falling, Tables};
+ghost use Rattle.orders.specs.DrawnClasses.{sets_below, sets_reached, grades};
 
 use crate::class_order::MAX_CLASSES;
 use sets::small_set::SmallSet;
@@ -8,15 +8,22 @@ use sets::small_set::SmallSet;
 pub mod building;
 pub mod classes;
 
-// For each class, of which there are `count`: the classes directly below it, what it reaches along these links,
-// and its grade. The last two are tables of what the first means.
+// The classes directly below a class, what it reaches along these links, and its grade. The last two are kept
+// beside the first, which says what they are.
+#[derive(Clone, Copy)]
+struct DrawnClass {
+    below: SmallSet,
+    reached: SmallSet,
+    grade: u8,
+}
+
+// The classes are the first `count`; the places past them have no links and grade 0.
+// No `ArrayVec`: it is not `Copy`, which callers rely on.
 #[derive(Clone, Copy)]
 pub struct DrawnOrder {
     count: u8,
-    below: [SmallSet; MAX_CLASSES as usize],
-    reached: [SmallSet; MAX_CLASSES as usize],
-    grades: [u8; MAX_CLASSES as usize],
-    ghost drawn: { Drawn count (take count below) },
-    ghost falling: { Falling (take count below) },
-    ghost tables: { Tables (take count below) reached grades },
+    classes: [DrawnClass; MAX_CLASSES as usize],
+    ghost drawn: { Drawn count (sets_below count classes) },
+    ghost falling: { Falling (sets_below count classes) },
+    ghost tables: { Tables (sets_below count classes) (sets_reached classes) (grades classes) },
 }

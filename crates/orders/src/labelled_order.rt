@@ -9,6 +9,7 @@ pub mod building;
 pub mod classes;
 
 // The labels of the classes are the first `count`.
+// No `ArrayVec`: it is not `Copy`, which callers rely on.
 #[derive(Clone, Copy)]
 pub struct LabelledOrder {
     count: u8,

@@ -9,9 +9,8 @@ pub fn top_grade<O: ClassOrder>(order: &O) -> u8
     ensures reply { result ≡ greatest_below (O.ClassOrder.classes order.now) (O.ClassOrder.grade order.now) }
     ensures laws { (Greatest (O.ClassOrder.classes order.now) (O.ClassOrder.grade order.now) result) × (result ≤ 23) }
 {
-    let mut top = 0;
-    for c in 0..order.classes() {
-        top = order.grade(c).max(top);
-    }
-    top
+    (0..order.classes())
+        .map(|c| order.grade(c))
+        .max()
+        .unwrap_or(0)
 }

@@ -2,6 +2,7 @@
 use Rattle.std.proofs.Common.{◌≡◌, ℕ, zero, suc, ◌+◌, ◌-◌, ◌*◌, ◌/◌, ◌%◌, ◌^◌, ◌<◌, ◌≤◌, true, false, ◌&&◌, ◌||◌, eqb, ltb, ◌⊎◌, refl, ap, ◌∙◌, inl, inr, ⊎_elim, add-one, arith, pow_pos, pow_mono}
 use native.Mathlib.Nat.{div-eq_of_lt, div-eq_of_lt-le}
 use lib.Bits.{bit_and, bit_or, or_shr, or_mod, and_shr, and_mod}
+use Rattle.std.proofs.Math.Bool.{or_comm}
 use Rattle.std.proofs.lemmas.Nat.{pow-add, pow_below, shl-shr, one_shl, leading_top}
 use Rattle.std.proofs.lemmas.Bool.{cases_order, eq-eqb, ne_eqb, lt-ltb}
 use Rattle.sets.specs.Members.{has_bit}
@@ -96,7 +97,7 @@ has_top w m h n0 =
     (r.0, omega arith, r.2, r.3, top_digit m r.0 r.2 r.3)
 
 -- A bit added to a word of 64 bits.
-pub has_with : (a i j : ℕ) → i < 64 → has_bit (bit_or ((1 * 2 ^ i) % 2 ^ 64) a) j ≡ ((ltb i 64 && eqb i j) || has_bit a j)
+pub has_with : (a i j : ℕ) → i < 64 → has_bit (bit_or a ((1 * 2 ^ i) % 2 ^ 64)) j ≡ ((ltb i 64 && eqb i j) || has_bit a j)
 has_with a i j h =
     let t : ltb i 64 ≡ true = lt-ltb i 64 h in
-    ap (λ n. has_bit (bit_or n a) j) (one_shl i 64 h) ∙ has_or (2 ^ i) a j ∙ rw t (ap (λ b. b || has_bit a j) (has_one i j))
+    ap (λ n. has_bit (bit_or a n) j) (one_shl i 64 h) ∙ has_or a (2 ^ i) j ∙ or_comm (has_bit a j) (has_bit (2 ^ i) j) ∙ rw t (ap (λ b. b || has_bit a j) (has_one i j))

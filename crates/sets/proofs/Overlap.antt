@@ -1,19 +1,14 @@
 -- What it says that two sets overlap, and that a set lies below a number.
-use Rattle.std.proofs.Common.{◌≡◌, ℕ, suc, ◌/◌, ◌^◌, ◌<◌, ◌≤◌, Bool, true, false, not, ◌&&◌, eqb, ltb, sym, refl, ap, ◌∙◌, ⊎_elim, arith, pow_pos, pow_mono}
+use Rattle.std.proofs.Common.{◌≡◌, ℕ, suc, ◌/◌, ◌^◌, ◌<◌, ◌≤◌, true, false, not, ◌&&◌, eqb, ltb, sym, ap, ◌∙◌, ⊎_elim, arith, pow_pos, pow_mono}
 use native.Mathlib.Nat.{div-eq_of_lt}
 use lib.Bits.{bit_and}
 use Rattle.std.proofs.lemmas.Nat.{and_le_l, le-div}
 use Rattle.std.proofs.lemmas.Bool.{both_ways, cases_Bool, cases_lt, eq-eqb, eqb-true, eqb-false, ne_eqb, le-ltb, ltb-false, not-true, not_from_false, and_parts, and_from}
+use Rattle.std.proofs.lemmas.Bool.Decides.{same_from_decides}
 use Rattle.sets.specs.Below.{some_below}
 use Rattle.sets.specs.Members.{Members, has_bit, overlap, all_under}
 use Rattle.sets.proofs.Below.{some_is}
 use Rattle.sets.proofs.Bits.{has_and, has_none, has_past, has_top}
-
--- Two tests that come out true together are equal.
-pub same_test : (a b : Bool) → (a ≡ true → b ≡ true) → (b ≡ true → a ≡ true) → a ≡ b
-same_test true b to from = sym (to refl)
-same_test false true to from = from refl
-same_test false false to from = refl
 
 pub overlap_at : (p q : Members) (m : ℕ) → m < 64 → p m ≡ true → q m ≡ true → overlap p q ≡ true
 unfolding overlap
@@ -28,7 +23,7 @@ overlap_gives p q t =
 
 -- Two words of 64 bits share a bit just if their sets overlap.
 pub overlap_bits : (a b : ℕ) → a < 2 ^ 64 → not (eqb (bit_and a b) 0) ≡ overlap (has_bit a) (has_bit b)
-overlap_bits a b h = same_test (not (eqb (bit_and a b) 0)) (overlap (has_bit a) (has_bit b)) to from
+overlap_bits a b h = same_from_decides (not (eqb (bit_and a b) 0)) (overlap (has_bit a) (has_bit b)) (to, from) ((λ e. e), (λ e. e))
   where
     to : not (eqb (bit_and a b) 0) ≡ true → overlap (has_bit a) (has_bit b) ≡ true
     to t =
@@ -70,7 +65,7 @@ all_under_from n p h =
 
 -- A word of 64 bits, shifted right by n, is 0 just if its set lies below n.
 pub all_under_bits : (a n : ℕ) → a < 2 ^ 64 → eqb (a / 2 ^ n) 0 ≡ all_under n (has_bit a)
-all_under_bits a n h = same_test (eqb (a / 2 ^ n) 0) (all_under n (has_bit a)) to from
+all_under_bits a n h = same_from_decides (eqb (a / 2 ^ n) 0) (all_under n (has_bit a)) (to, from) ((λ e. e), (λ e. e))
   where
     small : a / 2 ^ n ≡ 0 → a < 2 ^ n
     small z = ⊎_elim (λ (l : a < 2 ^ n). l) (λ (l : 2 ^ n ≤ a). let q : 1 ≤ a / 2 ^ n = le-div 1 a (2 ^ n) (pow_pos n) (omega arith) in absurd (omega arith)) (cases_lt a (2 ^ n))

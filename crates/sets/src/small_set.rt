@@ -10,18 +10,20 @@ pub struct SmallSet {
     bits: u64,
 }
 
+// The set that has n just if bit n is 1.
+impl From<u64> for SmallSet {
+    ghost from_gives = { λ bits s. s.bits ≡ bits };
+
+    fn from(bits: u64) -> SmallSet {
+        SmallSet { bits }
+    }
+}
+
 impl SmallSet {
     pub fn empty() -> SmallSet
         ensures { members result ≡ nothing }
     {
         SmallSet { bits: 0 }
-    }
-
-    // The set that has n just if bit n is 1.
-    pub fn from_bits(bits: u64) -> SmallSet
-        ensures { result.bits ≡ bits }
-    {
-        SmallSet { bits }
     }
 
     pub fn contains(self, n: u8) -> bool
@@ -38,7 +40,7 @@ impl SmallSet {
             return self;
         }
         SmallSet {
-            bits: 1 << n | self.bits,
+            bits: self.bits | (1 << n),
         }
     }
 

@@ -1,12 +1,13 @@
 // How a drawn order is built up, class by class.
-ghost use Rattle.std.specs.Prelude.{◌≡◌, ℕ, ◌&&◌, slice_index};
+ghost use Rattle.std.specs.Prelude.{◌≡◌, ℕ, ◌&&◌, ◌||◌, ◌==◌, slice_index};
 ghost use Rattle.std.specs.Result.{result_map_both};
 ghost use Rattle.sets.specs.Below.{some_below, greatest_below};
 ghost use Rattle.sets.specs.Members.{members};
 ghost use Rattle.orders.specs.Links.{set_at, step_up};
+ghost use Rattle.orders.specs.DrawnClasses.{sets_reached, grades};
 ghost use Rattle.orders.specs.DrawnOrders.{drawing_of, first_set, next_set};
 
-use super::DrawnOrder;
+use super::{DrawnClass, DrawnOrder};
 use crate::class_order::MAX_CLASSES;
 use crate::order_fault::OrderFault;
 use sets::small_set::SmallSet;
@@ -19,42 +20,37 @@ impl DrawnOrder {
         if below != 0 {
             return Err(OrderFault::NotSmaller);
         }
-        let none = SmallSet::empty();
-        let mut reached = [none; MAX_CLASSES as usize];
-        reached[0] = none.with(0);
-        Ok(DrawnOrder {
-            count: 1,
-            below: [SmallSet::from_bits(0); MAX_CLASSES as usize],
-            reached,
-            grades: [0; MAX_CLASSES as usize],
-        })
+        let none = SmallSet::from(0u64);
+        let mut classes = [DrawnClass {
+            below: none,
+            reached: none,
+            grade: 0,
+        }; MAX_CLASSES as usize];
+        classes[0].reached = none.with(0);
+        Ok(DrawnOrder { count: 1, classes })
     }
 
-    // What the classes in a set reach together.
-    fn reached_from(&self, set: SmallSet) -> SmallSet
-        ensures { (d : ℕ) → members result d ≡ some_below self.now.count (λ e. members set e && members (set_at self.now.reached e) d) }
+    // The newest class, with this set directly below it: it reaches itself and what the classes in the set reach,
+    // and its grade is one more than the greatest grade in the set, or 0 if the set is empty.
+    fn next_class(&self, below: SmallSet) -> DrawnClass
+        ensures below { result.below ≡ below }
+        ensures reached { (d : ℕ) → members result.reached d ≡ (self.now.count == d || some_below self.now.count (λ e. members below e && members (set_at (sets_reached self.now.classes) e) d)) }
+        ensures grade { result.grade ≡ greatest_below self.now.count (step_up (members below) (λ e. slice_index (grades self.now.classes) e)) }
     {
-        let mut all = SmallSet::empty();
-        for e in 0..self.count {
-            if set.contains(e) {
-                all = self.reached[e as usize].union(all);
-            }
-        }
-        all
-    }
-
-    // The grade of a class with this set directly below it: one more than the greatest grade in the set,
-    // or 0 if the set is empty.
-    fn grade_above(&self, set: SmallSet) -> u8
-        ensures { result ≡ greatest_below self.now.count (step_up (members set) (λ e. slice_index self.now.grades e)) }
-    {
+        let mut reached = SmallSet::empty();
         let mut grade = 0;
-        for e in 0..self.count {
-            if set.contains(e) {
-                grade = (self.grades[e as usize] + 1).max(grade);
+        for (e, class) in self.classes[..self.count as usize].iter().enumerate() {
+            if below.contains(e as u8) {
+                reached = class.reached.union(reached);
+                grade = (class.grade + 1).max(grade);
             }
         }
-        grade
+        let reached = reached.with(self.count);
+        DrawnClass {
+            below,
+            reached,
+            grade,
+        }
     }
 
     // One more class, with this set directly below it.
@@ -66,15 +62,11 @@ impl DrawnOrder {
         if n >= MAX_CLASSES {
             return Err(OrderFault::TooManyClasses);
         }
-        let set = SmallSet::from_bits(below as u64);
+        let set = SmallSet::from(u64::from(below));
         if !set.all_under(n) {
             return Err(OrderFault::NotSmaller);
         }
-        let reached = self.reached_from(set).with(n);
-        let grade = self.grade_above(set);
-        self.below[n as usize] = set;
-        self.reached[n as usize] = reached;
-        self.grades[n as usize] = grade;
+        self.classes[n as usize] = self.next_class(set);
         self.count = n + 1;
         Ok(())
     }

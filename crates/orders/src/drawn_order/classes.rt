@@ -4,10 +4,10 @@ ghost use Rattle.orders.specs.Links.{link, dominates_as_drawn, grade_as_drawn};
 ghost use Rattle.orders.specs.Paths.{Reachable, Longest};
 ghost use Rattle.orders.specs.DrawnOrders.{drawing_of};
 ghost use Rattle.orders.specs.DrawnLaws;
-ghost use Rattle.std.proofs.Common.{rules, arith};
+ghost use Rattle.std.proofs.Common.{rules};
 
 use super::DrawnOrder;
-use crate::class_order::{ClassOrder, MAX_CLASSES};
+use crate::class_order::ClassOrder;
 
 impl ClassOrder for DrawnOrder {
     ghost classes = { λ s. s.count };
@@ -16,7 +16,7 @@ impl ClassOrder for DrawnOrder {
 
     ghost grade = { λ s. grade_as_drawn (drawing_of s) };
 
-    ghost few = { first_of (Prim.search rules, Prim.grind (arith, Self.row.coded.inj)) };
+    ghost few = { Prim.search rules };
 
     ghost reflexive = { λ s. DrawnLaws.reflexive s.count (drawing_of s) s.drawn };
 
@@ -36,17 +36,15 @@ impl ClassOrder for DrawnOrder {
         ensures reply { result ≡ dominates_as_drawn (drawing_of self.now) c d }
         ensures laws { Decides result ((c < self.now.count) × Reachable (link (drawing_of self.now)) c d) }
     {
-        c < MAX_CLASSES && self.reached[c as usize].contains(d)
+        self.classes
+            .get(c as usize)
+            .is_some_and(|class| class.reached.contains(d))
     }
 
     fn grade(&self, c: u8) -> u8
         ensures reply { result ≡ grade_as_drawn (drawing_of self.now) c }
         ensures laws { c < self.now.count → Longest (link (drawing_of self.now)) c result }
     {
-        if c < MAX_CLASSES {
-            self.grades[c as usize]
-        } else {
-            0
-        }
+        self.classes.get(c as usize).map_or(0, |class| class.grade)
     }
 }

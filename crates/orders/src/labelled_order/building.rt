@@ -10,6 +10,7 @@ use crate::order_fault::OrderFault;
 
 impl LabelledOrder {
     // An order with one class, which has this label.
+    // Two numbers, as a frame has them: a caller would only write a `Label` around them.
     pub fn new(rank: u8, compartments: u8) -> Result<LabelledOrder, OrderFault>
         ensures { result_map_both labels_of (λ e. e) result ≡ first_label rank compartments }
     {
@@ -27,12 +28,7 @@ impl LabelledOrder {
     fn has_label(&self, label: Label) -> bool
         ensures { result ≡ used (labels_of self.now) label }
     {
-        for c in 0..self.count {
-            if self.labels[c as usize] == label {
-                return true;
-            }
-        }
-        false
+        self.labels[..self.count as usize].contains(&label)
     }
 
     // One more class, with this label.

@@ -2,7 +2,7 @@
 ghost use Rattle.orders.specs.Labels.{dominates_by_label, grade_by_label};
 ghost use Rattle.orders.specs.LabelledOrders.{labels_of};
 ghost use Rattle.orders.specs.LabelLaws;
-ghost use Rattle.std.proofs.Common.{rules, arith};
+ghost use Rattle.std.proofs.Common.{rules};
 
 use super::LabelledOrder;
 use crate::class_order::ClassOrder;
@@ -14,7 +14,7 @@ impl ClassOrder for LabelledOrder {
 
     ghost grade = { λ s. grade_by_label (labels_of s) };
 
-    ghost few = { first_of (Prim.search rules, Prim.grind (arith, Self.row.coded.inj)) };
+    ghost few = { Prim.search rules };
 
     ghost reflexive = { λ s. LabelLaws.reflexive s.count (labels_of s) s.labelled };
 
