@@ -1,6 +1,6 @@
 -- What a store does to an item: the numbers still fall, and reads at kept numbers are served what they were.
-use Rattle.std.proofs.Common.{◌≡◌, ℕ, zero, suc, ◌+◌, ◌<◌, ◌≤◌, true, false, cond, eqb, ltb, leb, List, [], ◌∷◌, length, take, Some, sym, refl, ap, ◌∙◌, inl, inr, arith, length-take}
-use Rattle.std.proofs.lemmas.Bool.{ltb-true, ltb-false, leb-true, leb-false, eqb-true, eqb-false, lt-ltb, and_from, cond_both, cases_lt, both_ways}
+use Rattle.std.proofs.Common.{◌≡◌, ℕ, zero, suc, ◌+◌, ◌<◌, ◌≤◌, true, cond, eqb, ltb, leb, List, [], ◌∷◌, length, take, Some, sym, refl, ap, ◌∙◌, inl, inr, arith, length-take}
+use Rattle.std.proofs.lemmas.Bool.{ltb-true, ltb-false, leb-true, eqb-true, eqb-false, lt-ltb, and_from, cond_both, cases_lt}
 use Rattle.cells.specs.Versions.{version, kept, accepts, stored, read_at, falling}
 use Rattle.cells.specs.Laws.{Stores}
 use Rattle.cells.specs.declared.version.Version.{Version}
@@ -85,13 +85,6 @@ module _ {V : Type 0} where
   stored_few n v [] h = omega arith
   stored_few n v (x ∷ older) h =
       stored_ways n v x older (λ after. length after ≤ kept) (λ _. h) (λ _. simp length-take (omega arith)) (λ _. h)
-
-  -- A refused store leaves the item as it was.
-  pub stored_refused : (n : ℕ) (v : V) (vs : List (Version V)) → accepts n vs ≡ false → stored n v vs ≡ vs
-  stored_refused n v [] t = absurd (both_ways true t refl)
-  stored_refused n v (x ∷ older) t =
-      let above = leb-false x.number n t in
-      stored_ways n v x older (λ after. after ≡ x ∷ older) (λ e. absurd (omega arith)) (λ l. absurd (omega arith)) (λ _. refl)
 
   pub stores : (n : ℕ) (v : V) (vs : List (Version V)) → falling vs ≡ true → length vs ≤ kept → accepts n vs ≡ true → Stores n v vs (stored n v vs)
   stores n v vs f few accepted = record {

@@ -1,6 +1,5 @@
 -- What the version store promises of an item, in words that do not say how its versions are searched or changed.
-use Rattle.std.specs.Prelude.{◌≡◌, ℕ, ◌+◌, ◌<◌, ◌≤◌, true, List, length, Some, None, Ok, Err, Option, Result}
-use Rattle.std.specs.List.{ContainsAt, AllByRecursion}
+use Rattle.std.specs.Prelude.{◌≡◌, ℕ, ◌+◌, ◌<◌, ◌≤◌, true, List, length, All, Contains, Some, None, Ok, Err, Option, Result}
 use Rattle.cells.specs.Versions.{version, kept, read_at, falling}
 use Rattle.cells.specs.Cells.{item}
 use Rattle.cells.specs.declared.version.Version.{Version}
@@ -10,8 +9,8 @@ use Rattle.cells.specs.declared.faults.StoreFault.{StoreFault}
 module _ {V : Type 0} where
   -- A read at n is served one of the versions, with the greatest number not above n; or nothing, and then all numbers are above n.
   abbrev pub Serves : ℕ → List (Version V) → Option (Version V) → Type 0
-  Serves n vs (Some x) = ContainsAt vs x × (x.number ≤ n) × AllByRecursion (λ y. y.number ≤ n → y.number ≤ x.number) vs
-  Serves n vs None = AllByRecursion (λ y. n < y.number) vs
+  Serves n vs (Some x) = Contains vs x × (x.number ≤ n) × All (λ y. y.number ≤ n → y.number ≤ x.number) vs
+  Serves n vs None = All (λ y. n < y.number) vs
 
   abbrev pub Reads : ℕ → List (Version V) → Result (Option (Version V)) ReadFault → Type 0
   Reads n vs (Ok found) = Serves n vs found
@@ -19,7 +18,7 @@ module _ {V : Type 0} where
 
   -- The newest version is one of the versions, and no number is above its own.
   abbrev pub Latest : List (Version V) → Result (Version V) ReadFault → Type 0
-  Latest vs (Ok x) = ContainsAt vs x × AllByRecursion (λ y. y.number ≤ x.number) vs
+  Latest vs (Ok x) = Contains vs x × All (λ y. y.number ≤ x.number) vs
   Latest vs (Err fault) = Unit {0}
 
   -- What an accepted store of v under n does to the versions of an item.

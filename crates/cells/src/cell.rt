@@ -14,7 +14,7 @@ pub struct Cell<V> {
     ghost ordered: { falling (newest ∷ listed older) ≡ true },
 }
 
-// A copy is the same cell, and never fails; `Copy` needs this, and it cannot be derived over the invariant.
+// A copy is the same cell, and never fails. Written out, since a derive was tried and refused: "`Clone` cannot be derived for a struct with a ghost field".
 impl<V: Copy> Clone for Cell<V> {
     ghost is_clone = { λ x y. y ≡ x };
 

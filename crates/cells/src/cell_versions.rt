@@ -38,8 +38,7 @@ impl<V: Copy> Cell<V> {
         } else {
             match self.older {
                 Older::Nothing => Older::One(self.newest),
-                Older::One(second) => Older::Two(self.newest, second),
-                Older::Two(second, _) => Older::Two(self.newest, second),
+                Older::One(second) | Older::Two(second, _) => Older::Two(self.newest, second),
             }
         };
         Cell {
@@ -56,8 +55,7 @@ impl<V: Copy> Cell<V> {
             return Some(self.newest);
         }
         match self.older {
-            Older::One(second) if second.number <= number => Some(second),
-            Older::Two(second, _) if second.number <= number => Some(second),
+            Older::One(second) | Older::Two(second, _) if second.number <= number => Some(second),
             Older::Two(_, third) if third.number <= number => Some(third),
             _ => None,
         }

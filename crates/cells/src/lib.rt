@@ -6,6 +6,7 @@ pub mod cell_versions;
 pub mod faults;
 pub mod older;
 pub mod slip;
+mod slip_words;
 #[cfg(test)]
 mod tests;
 pub mod value;

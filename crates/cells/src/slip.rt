@@ -1,9 +1,9 @@
 // A slip: what is noted of a device that came in for repair. In bytes: the serial number with the high byte first, the fault code, the state.
-ghost use Rattle.std.specs.Prelude.{◌≡◌};
+ghost use Rattle.std.specs.Prelude.{◌≡◌, ok_or};
 ghost use Rattle.cells.specs.Encodings.{slip_bytes, slip_from, blank_slip, state_byte, state_from};
 ghost use Rattle.std.proofs.Common.{rules};
 
-use crate::value::Value;
+use crate::value::{Value, WrongWidth};
 
 #[derive(Clone, Copy, PartialEq, Eq, Debug)]
 pub enum SlipState {
@@ -19,25 +19,33 @@ pub struct Slip {
     pub state: SlipState,
 }
 
-impl SlipState {
-    fn byte(self) -> u8
-        ensures { result ≡ state_byte self }
-    {
-        match self {
+// A byte that stands for no state.
+#[derive(Clone, Copy, PartialEq, Eq, Debug)]
+pub struct NoSuchState(pub u8);
+
+impl From<SlipState> for u8 {
+    ghost from_gives = { λ state byte. byte ≡ state_byte state };
+
+    fn from(state: SlipState) -> u8 {
+        match state {
             SlipState::Received => 0,
             SlipState::Reflashed => 1,
             SlipState::SentBack => 2,
         }
     }
+}
 
-    fn from_byte(byte: u8) -> Option<SlipState>
-        ensures { result ≡ state_from byte }
-    {
+impl TryFrom<u8> for SlipState {
+    type Error = NoSuchState;
+
+    ghost try_from_gives = { λ byte state. state ≡ ok_or (state_from byte) (record { 0 = byte }) };
+
+    fn try_from(byte: u8) -> Result<SlipState, NoSuchState> {
         match byte {
-            0 => Some(SlipState::Received),
-            1 => Some(SlipState::Reflashed),
-            2 => Some(SlipState::SentBack),
-            _ => None,
+            0 => Ok(SlipState::Received),
+            1 => Ok(SlipState::Reflashed),
+            2 => Ok(SlipState::SentBack),
+            _ => Err(NoSuchState(byte)),
         }
     }
 }
@@ -45,7 +53,7 @@ impl SlipState {
 impl Value for Slip {
     const WIDTH: usize = 6;
 
-    ghost width = { 6 };
+    ghost WIDTH = { 6 };
 
     ghost starting = { blank_slip };
 
@@ -61,10 +69,6 @@ impl Value for Slip {
 
     ghost encodes = { Prim.search rules };
 
-    fn size() -> usize {
-        Self::WIDTH
-    }
-
     fn start() -> Slip {
         Slip {
             serial: 0,
@@ -78,18 +82,18 @@ impl Value for Slip {
             [a, b, c, d, fault, state] => Some(Slip {
                 serial: u32::from_be_bytes([*a, *b, *c, *d]),
                 fault: *fault,
-                state: SlipState::from_byte(*state)?,
+                state: SlipState::try_from(*state).ok()?,
             }),
             _ => None,
         }
     }
 
-    fn write(self, out: &mut [u8]) -> bool {
+    fn write(self, out: &mut [u8]) -> Result<(), WrongWidth> {
         if out.len() != Self::WIDTH {
-            return false;
+            return Err(WrongWidth);
         }
         let [a, b, c, d] = self.serial.to_be_bytes();
-        out.copy_from_slice(&[a, b, c, d, self.fault, self.state.byte()]);
-        true
+        out.copy_from_slice(&[a, b, c, d, self.fault, self.state.into()]);
+        Ok(())
     }
 }

@@ -2,14 +2,15 @@
 use crate::cell::Cell;
 use crate::faults::{ReadFault, StoreFault};
 use crate::slip::{Slip, SlipState};
-use crate::value::Value;
+use crate::value::{Value, WrongWidth};
 use crate::version::Version;
 use crate::version_store::{newest, read_at, store};
 use std::test::Fail;
 
 // Writes a value and reads it back.
 fn through<V: Value>(value: V, out: &mut [u8]) -> Option<V> {
-    if value.write(out) { V::read(out) } else { None }
+    value.write(out).ok()?;
+    V::read(out)
 }
 
 #[test]
@@ -20,7 +21,7 @@ fn words_go_high_byte_first(rt: HostRuntime) {
     assert_eq!(rt; u32::read(&[1, 2, 3]), None);
     assert_eq!(rt; u32::read(&[1, 2, 3, 4, 5]), None);
     let mut short = [9, 9, 9];
-    assert!(rt; !7u32.write(&mut short));
+    assert_eq!(rt; 7u32.write(&mut short), Err(WrongWidth));
     assert_eq!(rt; short, [9, 9, 9]);
 }
 

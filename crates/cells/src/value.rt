@@ -1,13 +1,16 @@
 // A kind of value: how many bytes it takes, where an item of it starts, and how it is read from bytes and written to them.
-ghost use Rattle.std.specs.Prelude.{◌≡◌, ℕ, ◌<◌, ◌≤◌, List, length, if◌then◌else◌, Some as Just, Option as Maybe, ◌==◌, nat_eq};
-ghost use Rattle.std.specs.List.{AllByRecursion};
+ghost use Rattle.std.specs.Prelude.{◌≡◌, ℕ, ◌<◌, ◌≤◌, List, length, All, if◌then◌else◌, Some as Just, Option as Maybe, nat_eq};
+ghost use Rattle.cells.specs.Written.{written};
+
+// Memory of another number of bytes than a value takes.
+#[derive(Clone, Copy, PartialEq, Eq, Debug)]
+pub struct WrongWidth;
 
 pub trait Value: Copy {
     // The number of bytes that a value takes.
     const WIDTH: usize;
 
-    // The same number for contracts, since a contract cannot name the constant of a type that is not known.
-    ghost width: { ℕ };
+    ghost WIDTH: { ℕ };
 
     // The value that a fresh item holds.
     ghost starting: { Self };
@@ -17,10 +20,6 @@ pub trait Value: Copy {
     // The value that bytes stand for, if they stand for one.
     ghost decoding: { List ℕ → Maybe Self };
 
-    // WIDTH, for generic code.
-    fn size() -> usize
-        ensures { result ≡ width };
-
     fn start() -> Self
         ensures { result ≡ starting };
 
@@ -28,18 +27,18 @@ pub trait Value: Copy {
     fn read(bytes: &[u8]) -> Option<Self>
         ensures { result ≡ decoding bytes.now };
 
-    // Writes over the whole of `out` if it has the width, and says whether it did; otherwise it changes nothing.
-    fn write(self, out: &mut [u8]) -> bool
-        ensures reply { result ≡ (length out.old == width) }
-        ensures memory { out.new ≡ (if nat_eq (length out.old) width then encoding self else out.old) };
+    // Writes over the whole of `out` if it has the width, and refuses any other, which it leaves as it is.
+    fn write(self, out: &mut [u8]) -> Result<(), WrongWidth>
+        ensures reply { result ≡ written (nat_eq (length out.old) WIDTH) }
+        ensures memory { out.new ≡ (if nat_eq (length out.old) WIDTH then encoding self else out.old) };
 
-    ghost narrow: { (1 ≤ width) × (width ≤ 6) };
+    ghost narrow: { (1 ≤ WIDTH) × (WIDTH ≤ 6) };
 
-    ghost exact: { (x : Self) → length (encoding x) ≡ width };
+    ghost exact: { (x : Self) → length (encoding x) ≡ WIDTH };
 
     // A value that is written and read back is the same.
     ghost decodes: { (x : Self) → decoding (encoding x) ≡ Just x };
 
     // Bytes that are accepted, read and written are the same. A byte is a number below 256.
-    ghost encodes: { (bytes : List ℕ) (x : Self) → AllByRecursion (λ b. b < 256) bytes → decoding bytes ≡ Just x → encoding x ≡ bytes };
+    ghost encodes: { (bytes : List ℕ) (x : Self) → All (λ b. b < 256) bytes → decoding bytes ≡ Just x → encoding x ≡ bytes };
 }

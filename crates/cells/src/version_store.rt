@@ -8,6 +8,7 @@ use crate::cell::Cell;
 use crate::faults::{ReadFault, StoreFault};
 use crate::version::Version;
 
+// The cells come with each call and are no field of a struct: memory is lent for the time of a call, a rule of the project.
 // Stores a value of one item under the number of a version period.
 pub fn store<V: Copy>(
     cells: &mut [Cell<V>],
@@ -19,10 +20,7 @@ pub fn store<V: Copy>(
     ensures memory { map versions cells.new ≡ slice_set (map versions cells.old) index (stored number value (item index (map versions cells.old))) }
     ensures laws { Changes index number value (map versions cells.old) result (map versions cells.new) }
 {
-    if index >= cells.len() {
-        return Err(StoreFault::NoCell);
-    }
-    let cell = cells[index];
+    let cell = *cells.get(index).ok_or(StoreFault::NoCell)?;
     if number < cell.newest.number {
         return Err(StoreFault::OldNumber);
     }
@@ -39,10 +37,7 @@ pub fn read_at<V: Copy>(
     ensures reply { result ≡ read_reply index number (map versions cells.now) }
     ensures laws { Reads number (item index (map versions cells.now)) result }
 {
-    if index >= cells.len() {
-        return Err(ReadFault::NoCell);
-    }
-    let cell = cells[index];
+    let cell = cells.get(index).ok_or(ReadFault::NoCell)?;
     Ok(cell.read_at(number))
 }
 
@@ -51,9 +46,6 @@ pub fn newest<V: Copy>(cells: &[Cell<V>], index: usize) -> Result<Version<V>, Re
     ensures reply { result ≡ newest_reply index (map versions cells.now) }
     ensures laws { Latest (item index (map versions cells.now)) result }
 {
-    if index >= cells.len() {
-        return Err(ReadFault::NoCell);
-    }
-    let cell = cells[index];
+    let cell = cells.get(index).ok_or(ReadFault::NoCell)?;
     Ok(cell.newest)
 }

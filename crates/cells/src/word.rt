@@ -2,12 +2,12 @@
 ghost use Rattle.cells.specs.Encodings.{number_bytes, number_from};
 ghost use Rattle.std.proofs.Common.{rules};
 
-use crate::value::Value;
+use crate::value::{Value, WrongWidth};
 
 impl Value for u32 {
     const WIDTH: usize = 4;
 
-    ghost width = { 4 };
+    ghost WIDTH = { 4 };
 
     ghost starting = { 0 };
 
@@ -23,10 +23,6 @@ impl Value for u32 {
 
     ghost encodes = { Prim.search rules };
 
-    fn size() -> usize {
-        Self::WIDTH
-    }
-
     fn start() -> u32 {
         0
     }
@@ -38,11 +34,11 @@ impl Value for u32 {
         }
     }
 
-    fn write(self, out: &mut [u8]) -> bool {
+    fn write(self, out: &mut [u8]) -> Result<(), WrongWidth> {
         if out.len() != Self::WIDTH {
-            return false;
+            return Err(WrongWidth);
         }
         out.copy_from_slice(&self.to_be_bytes());
-        true
+        Ok(())
     }
 }

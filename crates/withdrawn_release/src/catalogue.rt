@@ -27,11 +27,10 @@ pub fn served(catalogue: &[Cell<u32>], number: u32) -> Result<Option<Release>, R
 {
     let firmware = read_at(catalogue, FIRMWARE, number)?;
     let layout = read_at(catalogue, LAYOUT, number)?;
-    match (firmware, layout) {
-        (Some(firmware), Some(layout)) => Ok(Some(Release {
+    Ok(
+        firmware.zip(layout).map(|(firmware, layout)| Release {
             firmware: firmware.value,
             layout: layout.value,
-        })),
-        _ => Ok(None),
-    }
+        }),
+    )
 }

@@ -10,7 +10,6 @@ mod release;
 
 use catalogue::{publish, served};
 use cells::cell::Cell;
-use cells::faults::{ReadFault, StoreFault};
 use release::Release;
 use std::io;
 
@@ -18,15 +17,11 @@ use std::io;
 fn show_readers(rt: &HostRuntime, catalogue: &[Cell<u32>], newest: u32) -> io::Result<()> {
     for number in 0..=newest {
         match served(catalogue, number) {
-            Ok(Some(Release { firmware, layout })) => {
-                println!(rt;
-                    "    a reader at {number} is served firmware {firmware} with layout {layout}"
-                )?
-            }
+            Ok(Some(release)) => println!(rt; "    a reader at {number} is served {release}")?,
             Ok(None) => println!(rt;
                 "    a reader at {number} is served nothing: that version is no longer kept"
             )?,
-            Err(ReadFault::NoCell) => println!(rt; "    there is no such item")?,
+            Err(fault) => println!(rt; "    {fault}")?,
         }
     }
     Ok(())
@@ -43,12 +38,10 @@ fn step(
     ensures memory { map versions catalogue.new ≡ published number release (map versions catalogue.old) }
 {
     let outcome = publish(catalogue, number, release);
-    let Release { firmware, layout } = release;
-    println!(rt; "{title}: firmware {firmware} with layout {layout}, under number {number}")?;
+    println!(rt; "{title}: {release}, under number {number}")?;
     match outcome {
         Ok(()) => println!(rt; "    stored")?,
-        Err(StoreFault::OldNumber) => println!(rt; "    refused: the newest number is greater")?,
-        Err(StoreFault::NoCell) => println!(rt; "    refused: there is no such item")?,
+        Err(fault) => println!(rt; "    refused: {fault}")?,
     }
     show_readers(rt, catalogue, number)
 }
