@@ -1,13 +1,12 @@
 -- The bay that holds an item is the only one in the way, so it is the lowest.
-use Rattle.std.proofs.Common.{◌≡◌, ℕ, ◌<◌, Bool, true, false, not, ◌&&◌, ◌||◌, eqb, ltb, List, refl, ◌∙◌, ⊎_elim, arith}
+use Rattle.std.proofs.Common.{◌≡◌, ℕ, ◌<◌, Bool, true, false, not, ◌&&◌, ◌||◌, eqb, ltb, List, Some, None, Option, refl, ◌∙◌, ⊎_elim, arith}
 use Rattle.std.proofs.lemmas.Bool.{cases_Bool, cond-true, cond-false, and_parts, ltb-true}
 use Rattle.std.proofs.lemmas.Bool.Decides.{nat_tests}
 use Rattle.rules.specs.declared.access.Access.TheVariants.{Write}
-use Rattle.rules.specs.declared.answer.Answer.TheVariants.{Yes, No}
 use Rattle.rules.specs.Policies.{lock}
-use Rattle.rules.specs.Refusals.{lock_no, lock_yes}
+use Rattle.rules.specs.Refusals.{lock_some, lock_none}
 use Rattle.exclusive_rule.specs.declared.hold.Hold.{Hold}
-use Rattle.exclusive_rule.specs.Holds.{held_by_another, hold_answer, hold_at, claims_of}
+use Rattle.exclusive_rule.specs.Holds.{held_by_another, other_holder, hold_at, claims_of}
 
 -- Bay n holds the item, r and w say what for; bay b asks; bay j is any.
 module _ (n b j : ℕ) (r w : Bool) where
@@ -29,19 +28,25 @@ module _ (n b j : ℕ) (r w : Bool) where
   unfolding held way
   all_clear t = grind (arith, nat_tests)
 
-pub answer_is : (holds : List Hold) (b i : ℕ) → hold_answer (hold_at holds i) b ≡ lock Write (claims_of holds) b i
-unfolding held way
-answer_is holds b i = ⊎_elim refused granted (cases_Bool (held_by_another (hold_at holds i) b))
-  where
-    refused : held_by_another (hold_at holds i) b ≡ true → hold_answer (hold_at holds i) b ≡ lock Write (claims_of holds) b i
-    refused t =
-        let h = hold_at holds i in
-        let parts = and_parts (ltb h.bay 8) (not (eqb h.bay b) && (h.reads || h.writes)) t in
-        cond-true (held_by_another h b) (No h.bay) Yes t
-        ∙ lock_no Write (claims_of holds) b i h.bay (ltb-true h.bay 8 parts.0) (holder_in_way h.bay b h.bay h.reads h.writes t refl) (λ j l. others_clear h.bay b j h.reads h.writes l)
+no_and : (x : Bool) → (x && false) ≡ false
+no_and true = refl
+no_and false = refl
 
-    granted : held_by_another (hold_at holds i) b ≡ false → hold_answer (hold_at holds i) b ≡ lock Write (claims_of holds) b i
-    granted t =
-        let h = hold_at holds i in
-        cond-false (held_by_another h b) (No h.bay) Yes t
-        ∙ lock_yes Write (claims_of holds) b i (λ j l. all_clear h.bay b j h.reads h.writes t)
+module _ (holds : List (Option Hold)) (b i : ℕ) where
+  answer_at : (o : Option Hold) → hold_at holds i ≡ o → other_holder o b ≡ lock Write (claims_of holds) b i
+  unfolding held way
+  answer_at None e = lock_none Write (claims_of holds) b i (λ j l. rw e (no_and (not (eqb b j))))
+  answer_at (Some h) e =
+      ⊎_elim
+      (λ (t : held_by_another (Some h) b ≡ true).
+      let parts = and_parts (ltb h.bay 8) (not (eqb h.bay b) && (h.reads || h.writes)) t in
+      cond-true (held_by_another (Some h) b) (Some h.bay) None t
+      ∙ lock_some Write (claims_of holds) b i h.bay (ltb-true h.bay 8 parts.0) (rw e (holder_in_way h.bay b h.bay h.reads h.writes t refl))
+      (λ j l. rw e (others_clear h.bay b j h.reads h.writes l)))
+      (λ (t : held_by_another (Some h) b ≡ false).
+      cond-false (held_by_another (Some h) b) (Some h.bay) None t
+      ∙ lock_none Write (claims_of holds) b i (λ j l. rw e (all_clear h.bay b j h.reads h.writes t)))
+      (cases_Bool (held_by_another (Some h) b))
+
+  pub answer_is : other_holder (hold_at holds i) b ≡ lock Write (claims_of holds) b i
+  answer_is = answer_at (hold_at holds i) refl

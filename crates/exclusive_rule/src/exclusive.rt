@@ -1,46 +1,22 @@
 // The rule of exclusive holds: no to any claim on an item that another bay holds. No bay ever becomes stale.
 ghost use Rattle.std.specs.Prelude.{◌≡◌, map};
 ghost use Rattle.rules.specs.declared.access.Access.TheVariants.{Write};
-ghost use Rattle.rules.specs.Calls.{claiming, forgetting};
+ghost use Rattle.rules.specs.Calls.{forgetting};
 ghost use Rattle.rules.specs.Policies.{lock};
 ghost use Rattle.exclusive_rule.specs.Holds.{claims_of, released_by};
 ghost use Rattle.rules.specs.Refusals.{lock_names_a_rival};
 
 use crate::hold::Hold;
 use rules::access::Access;
-use rules::answer::Answer;
 use rules::local_rule::{BAYS, ITEMS, LocalRule};
 use rules::rule_fault::RuleFault;
 
-const VARIANTS: u8 = 1;
-
 #[derive(Clone, Copy)]
 pub struct Exclusive {
-    holds: [Hold; 64],
+    holds: [Option<Hold>; ITEMS as usize],
 }
 
 impl Exclusive {
-    // What a read claim and a write claim share.
-    fn claim(&mut self, access: Access, bay: u8, item: u8) -> Result<(), RuleFault>
-        ensures reply { result ≡ (claiming access (lock Write) (claims_of self.old.holds) bay item).reply }
-        ensures state { claims_of self.new.holds ≡ (claiming access (lock Write) (claims_of self.old.holds) bay item).claims }
-    {
-        if bay >= BAYS {
-            return Err(RuleFault::NoSuchBay);
-        }
-        if item >= ITEMS {
-            return Err(RuleFault::NoSuchItem);
-        }
-        let i = item as usize;
-        match self.holds[i].answer(bay) {
-            Answer::No(other) => Err(RuleFault::ClaimedBy(other)),
-            Answer::Yes => {
-                self.holds[i] = self.holds[i].with(access, bay);
-                Ok(())
-            }
-        }
-    }
-
     // What settling and forgetting share: since an item has one holder, nobody has read what the bay writes.
     fn release(&mut self, bay: u8) -> Result<(), RuleFault>
         ensures reply { result ≡ (forgetting (claims_of self.old.holds) bay).reply }
@@ -55,13 +31,10 @@ impl Exclusive {
 }
 
 // The bay holds nothing any more.
-fn release_all(holds: &mut [Hold; 64], bay: u8)
+fn release_all(holds: &mut [Option<Hold>; ITEMS as usize], bay: u8)
     ensures { holds.new ≡ map (released_by bay) holds.old }
 {
-    for item in 0..ITEMS {
-        let i = item as usize;
-        holds[i] = holds[i].released(bay);
-    }
+    *holds = holds.map(|held| held.and_then(|hold| hold.released(bay)));
 }
 
 impl LocalRule for Exclusive {
@@ -70,29 +43,35 @@ impl LocalRule for Exclusive {
     ghost variants = { 1 };
 
     // Readers are shut out as writers are.
-    ghost reading = { lock Write };
+    ghost policy = { λ access. lock Write };
 
-    ghost writing = { lock Write };
-
-    ghost readers = { lock_names_a_rival Write };
-
-    ghost writers = { lock_names_a_rival Write };
+    ghost rivals = { λ access. lock_names_a_rival Write };
 
     fn fresh(variant: u8) -> Option<Exclusive> {
-        if variant >= VARIANTS {
-            return None;
-        }
-        Some(Exclusive {
-            holds: [Hold::none(); 64],
+        (variant == 0).then_some(Exclusive {
+            holds: [None; ITEMS as usize],
         })
     }
 
-    fn claim_read(&mut self, bay: u8, item: u8) -> Result<(), RuleFault> {
-        self.claim(Access::Read, bay, item)
-    }
-
-    fn claim_write(&mut self, bay: u8, item: u8) -> Result<(), RuleFault> {
-        self.claim(Access::Write, bay, item)
+    fn claim(&mut self, access: Access, bay: u8, item: u8) -> Result<(), RuleFault> {
+        if bay >= BAYS {
+            return Err(RuleFault::NoSuchBay);
+        }
+        if item >= ITEMS {
+            return Err(RuleFault::NoSuchItem);
+        }
+        let i = item as usize;
+        let hold = match self.holds[i] {
+            Some(hold) => {
+                if let Some(other) = hold.other_holder(bay) {
+                    return Err(RuleFault::ClaimedBy(other));
+                }
+                hold.with(access, bay)
+            }
+            None => Hold::new(access, bay),
+        };
+        self.holds[i] = Some(hold);
+        Ok(())
     }
 
     fn settle(&mut self, bay: u8) -> Result<(), RuleFault> {

@@ -1,9 +1,8 @@
-// Which bay holds an item, and what for. Where it is for neither reading nor writing, nobody holds it.
-ghost use Rattle.std.specs.Prelude.{◌≡◌};
-ghost use Rattle.exclusive_rule.specs.Holds.{unheld, hold_answer, held_also, released_by};
+// Which bay holds an item, and what for. Two flags and no `Access`: a bay may hold an item for both.
+ghost use Rattle.std.specs.Prelude.{◌≡◌, Some, None};
+ghost use Rattle.exclusive_rule.specs.Holds.{other_holder as held_by_other, held_also, released_by};
 
 use rules::access::Access;
-use rules::answer::Answer;
 use rules::local_rule::BAYS;
 
 #[derive(Clone, Copy)]
@@ -14,30 +13,27 @@ pub struct Hold {
 }
 
 impl Hold {
-    pub fn none() -> Hold
-        ensures { result ≡ unheld }
+    // The bay holds an item that nobody held.
+    pub fn new(access: Access, bay: u8) -> Hold
+        ensures { result ≡ held_also access bay None }
     {
         Hold {
-            bay: 0,
-            reads: false,
-            writes: false,
+            bay,
+            reads: access == Access::Read,
+            writes: access == Access::Write,
         }
     }
 
-    // No where another bay holds the item.
-    pub fn answer(self, bay: u8) -> Answer
-        ensures { result ≡ hold_answer self bay }
+    // The bay that holds the item, where it is another than this one.
+    pub fn other_holder(self, bay: u8) -> Option<u8>
+        ensures { result ≡ held_by_other (Some self) bay }
     {
-        if self.bay < BAYS && self.bay != bay && (self.reads || self.writes) {
-            Answer::No(self.bay)
-        } else {
-            Answer::Yes
-        }
+        (self.bay < BAYS && self.bay != bay && (self.reads || self.writes)).then_some(self.bay)
     }
 
     // The bay holds the item, for this too.
     pub fn with(self, access: Access, bay: u8) -> Hold
-        ensures { result ≡ held_also access bay self }
+        ensures { result ≡ held_also access bay (Some self) }
     {
         let own = self.bay == bay;
         match access {
@@ -54,9 +50,10 @@ impl Hold {
         }
     }
 
-    pub fn released(self, bay: u8) -> Hold
-        ensures { result ≡ released_by bay self }
+    // What is left of the hold once this bay releases its own.
+    pub fn released(self, bay: u8) -> Option<Hold>
+        ensures { result ≡ released_by bay (Some self) }
     {
-        if self.bay == bay { Hold::none() } else { self }
+        (self.bay != bay).then_some(self)
     }
 }

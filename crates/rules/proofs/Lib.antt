@@ -1,5 +1,6 @@
 pub mod InRange
-pub mod InPlace
+pub mod Mapped
+pub mod Lowest
 pub mod Tables
 pub mod Settling
 pub mod Accepted

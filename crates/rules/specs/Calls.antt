@@ -2,8 +2,6 @@
 use Rattle.std.specs.Prelude.{ℕ, cond, Some, None, Ok, Err, Option, Result, nat_lt}
 use Rattle.rules.specs.declared.access.Access.{Access}
 use Rattle.rules.specs.declared.access.Access.TheVariants.{Read, Write}
-use Rattle.rules.specs.declared.answer.Answer.{Answer}
-use Rattle.rules.specs.declared.answer.Answer.TheVariants.{Yes, No}
 use Rattle.rules.specs.declared.rule_fault.RuleFault.{RuleFault}
 use Rattle.rules.specs.declared.rule_fault.RuleFault.TheVariants.{NoSuchBay, NoSuchItem, ClaimedBy, Stale}
 use Rattle.rules.specs.Claims.{Claims, Policy, no_claims, with_read, with_write, settled, forgotten}
@@ -31,14 +29,14 @@ abbrev pub with_claim : Access → ℕ → ℕ → Claims → Claims
 with_claim Read = with_read
 with_claim Write = with_write
 
--- Yes makes the claim; no names a bay in the way.
-abbrev pub answered : Answer → Claims → Claims → Outcome
-answered Yes claimed k = accepted claimed
-answered (No b) claimed k = refused (ClaimedBy b) k
+-- With nothing in the way the claim is made; otherwise the refusal names the bay in the way.
+abbrev pub answered : Option ℕ → Claims → Claims → Outcome
+answered None claimed k = accepted claimed
+answered (Some b) claimed k = refused (ClaimedBy b) k
 
 -- A claim of bay b on item i that is answered so.
-abbrev pub claim_answered : Answer → Access → Claims → ℕ → ℕ → Outcome
-claim_answered answer access k b i = if_bay b k (if_item i k (answered answer (with_claim access b i k) k))
+abbrev pub claim_answered : Option ℕ → Access → Claims → ℕ → ℕ → Outcome
+claim_answered rival access k b i = if_bay b k (if_item i k (answered rival (with_claim access b i k) k))
 
 abbrev pub claiming : Access → Policy → Claims → ℕ → ℕ → Outcome
 claiming access policy k b i = claim_answered (policy k b i) access k b i
@@ -48,6 +46,10 @@ settling k b = if_bay b k (cond (k.stale b) (refused Stale k) (accepted (settled
 
 abbrev pub forgetting : Claims → ℕ → Outcome
 forgetting k b = if_bay b k (accepted (forgotten b k))
+
+-- The number v where it is one of the n from 0.
+abbrev pub one_of : ℕ → ℕ → Option ℕ
+one_of n v = cond (nat_lt v n) (Some v) None
 
 -- What a fresh rule of variant v means, out of n variants.
 abbrev pub fresh_claims : ℕ → ℕ → Option Claims

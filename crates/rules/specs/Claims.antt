@@ -1,8 +1,7 @@
 -- What a local rule means: which items each bay claims, which bays are stale, and how the calls change that.
 -- A bay is the slot of one running transaction; a claim is a lock request or an entry for validation.
-use Rattle.std.specs.Prelude.{ℕ, Bool, false, not, ◌&&◌, ◌||◌, ◌==◌, nat_eq}
+use Rattle.std.specs.Prelude.{ℕ, Bool, false, not, ◌&&◌, ◌||◌, Option, ◌==◌, nat_eq}
 use Rattle.sets.specs.Members.{overlap}
-use Rattle.rules.specs.declared.answer.Answer.{Answer}
 
 pub record Claims : Type 0 where
   -- Which of a rule's variants is in force, where it has several: set-up chooses it and no call changes it.
@@ -61,6 +60,6 @@ settled b k = forgotten b (record {
   stale = λ b'. k.stale b' || reads_from b k b';
 })
 
--- How a rule answers a claim: a function of what it means, of the bay and of the item.
+-- How a rule answers a claim: which bay stands in the way, if any. A function of what the rule means, of the bay and of the item.
 abbrev pub Policy : Type 0
-Policy = Claims → ℕ → ℕ → Answer
+Policy = Claims → ℕ → ℕ → Option ℕ

@@ -1,5 +1,6 @@
--- The numbers under which a rule's faults are reported, and which of them the rule itself raises.
-use Rattle.std.specs.Prelude.{ℕ, Bool, true, false, Some, None, Option}
+-- The numbers and the words under which a rule's faults are reported, and which of them the rule itself raises.
+use Rattle.std.specs.Prelude.{ℕ, Bool, true, false, List, ◌++◌, Some, None, Option, codes}
+use Rattle.std.specs.Fmt.{decimal}
 use Rattle.rules.specs.declared.rule_fault.RuleFault.{RuleFault}
 use Rattle.rules.specs.declared.rule_fault.RuleFault.TheVariants.{NoSuchBay, NoSuchItem, ClaimedBy, Stale}
 
@@ -21,3 +22,10 @@ named_bay NoSuchBay = None
 named_bay NoSuchItem = None
 named_bay (ClaimedBy b) = Some b
 named_bay Stale = None
+
+-- The fault in words, byte for byte.
+abbrev pub fault_text : RuleFault → List ℕ
+fault_text NoSuchBay = codes "no such bay"
+fault_text NoSuchItem = codes "no such item"
+fault_text (ClaimedBy b) = codes "no, bay " ++ (decimal b ++ codes " claims it")
+fault_text Stale = codes "no, it is stale"

@@ -7,3 +7,5 @@ pub mod Tables
 pub mod Worked
 pub mod Refusals
 pub mod Lowest
+pub mod RuleWords
+pub mod ChosenRules

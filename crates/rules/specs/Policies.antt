@@ -3,8 +3,6 @@ use Rattle.std.specs.Prelude.{◌≡◌, ℕ, zero, suc, ◌<◌, Bool, true, fa
 use Rattle.std.specs.Option.{option_or}
 use Rattle.rules.specs.declared.access.Access.{Access}
 use Rattle.rules.specs.declared.access.Access.TheVariants.{Read, Write}
-use Rattle.rules.specs.declared.answer.Answer.{Answer}
-use Rattle.rules.specs.declared.answer.Answer.TheVariants.{Yes, No}
 use Rattle.rules.specs.Claims.{Claims, Policy}
 
 -- The lowest number below n that passes a test, if any. (Not an `abbrev`: at a numeral it would unroll.)
@@ -21,24 +19,20 @@ bars Write reads writes = reads || writes
 abbrev pub in_the_way : Access → Claims → ℕ → ℕ → ℕ → Bool
 in_the_way access k b i b' = not (b == b') && bars access (k.reads b' i) (k.writes b' i)
 
-abbrev pub unless_any : Option ℕ → Answer
-unless_any None = Yes
-unless_any (Some b) = No b
-
--- Locks: no to a read where another bay claims the item for writing, no to a write where another claims it at all; the lowest such bay is named.
+-- Locks: in the way of a read is another bay that claims the item for writing, of a write one that claims it at all; the lowest such bay is named.
 abbrev pub lock : Access → Policy
-lock access k b i = unless_any (lowest_below 8 (in_the_way access k b i))
+lock access k b i = lowest_below 8 (in_the_way access k b i)
 
--- The same in words: yes if no bay is in the way; a bay that is named is in the way, and no lower one is.
-abbrev pub NamesTheLowest : Access → Claims → ℕ → ℕ → Answer → Type 0
-NamesTheLowest access k b i Yes = (b' : ℕ) → b' < 8 → in_the_way access k b i b' ≡ false
-NamesTheLowest access k b i (No n) =
+-- The same in words: where none is named, no bay is in the way; a bay that is named is in the way, and no lower one is.
+abbrev pub NamesTheLowest : Access → Claims → ℕ → ℕ → Option ℕ → Type 0
+NamesTheLowest access k b i None = (b' : ℕ) → b' < 8 → in_the_way access k b i b' ≡ false
+NamesTheLowest access k b i (Some n) =
     (n < 8) × (in_the_way access k b i n ≡ true) × ((b' : ℕ) → b' < n → in_the_way access k b i b' ≡ false)
 
--- The check rule (optimistic validation): yes to every claim, since it is judged when a bay settles.
-abbrev pub always_yes : Policy
-always_yes k b i = Yes
+-- The check rule (optimistic validation): nothing is ever in the way of a claim, since it is judged when a bay settles.
+abbrev pub nothing_in_the_way : Policy
+nothing_in_the_way k b i = None
 
 -- Variant 0 has locks, variant 1 the check rule.
 abbrev pub chosen : Access → Policy
-chosen access k b i = cond (k.variant == 0) (lock access k b i) (always_yes k b i)
+chosen access k b i = cond (k.variant == 0) (lock access k b i) (nothing_in_the_way k b i)

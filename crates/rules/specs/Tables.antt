@@ -1,5 +1,5 @@
 -- What a table of eight bays' claims means.
-use Rattle.std.specs.Prelude.{ℕ, Bool, false, ◌||◌, List, slice_index_or}
+use Rattle.std.specs.Prelude.{◌≡◌, ℕ, ◌≤◌, Bool, false, ◌||◌, List, Result, MatchResult, slice_index_or}
 use Rattle.sets.specs.Members.{Members, members, nothing, with_member, overlap}
 use Rattle.sets.specs.declared.small_set.SmallSet.{SmallSet}
 use Rattle.rules.specs.declared.access.Access.{Access}
@@ -7,6 +7,7 @@ use Rattle.rules.specs.declared.access.Access.TheVariants.{Read, Write}
 use Rattle.rules.specs.declared.bay_claims.BayClaims.{BayClaims}
 use Rattle.rules.specs.declared.chosen_rule.RuleKind.{RuleKind}
 use Rattle.rules.specs.declared.chosen_rule.RuleKind.TheVariants.{Locking, Checking}
+use Rattle.rules.specs.declared.chosen_rule.NoSuchKind.{NoSuchKind}
 use Rattle.rules.specs.Claims.{Claims}
 
 -- What one bay claims, and whether it is stale.
@@ -49,3 +50,7 @@ claims_of v bays = record {
 abbrev pub kind_number : RuleKind → ℕ
 kind_number Locking = 0
 kind_number Checking = 1
+
+-- The kind that has the number n; else an error with n, which no kind has.
+abbrev pub KindNumbered : ℕ → Result RuleKind NoSuchKind → Type 0
+KindNumbered n r = MatchResult r (λ kind. kind_number kind ≡ n) (λ e. (e.0 ≡ n) × (2 ≤ n))

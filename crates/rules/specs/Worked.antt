@@ -4,11 +4,11 @@ use Rattle.rules.specs.declared.access.Access.TheVariants.{Read, Write}
 use Rattle.rules.specs.declared.rule_fault.RuleFault.TheVariants.{Stale}
 use Rattle.rules.specs.Claims.{Claims, no_claims}
 use Rattle.rules.specs.Calls.{Outcome, claiming, settling}
-use Rattle.rules.specs.Policies.{always_yes}
+use Rattle.rules.specs.Policies.{nothing_in_the_way}
 
 -- Bay 0 reads item 5, bay 1 writes it.
 abbrev pub read_and_written : Claims
-read_and_written = (claiming Write always_yes (claiming Read always_yes (no_claims 0) 0 5).claims 1 5).claims
+read_and_written = (claiming Write nothing_in_the_way (claiming Read nothing_in_the_way (no_claims 0) 0 5).claims 1 5).claims
 
 -- Then bay 1 settles.
 abbrev pub writer_settles : Outcome

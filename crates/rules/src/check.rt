@@ -1,56 +1,31 @@
 // The check rule: every claim is accepted, and conflicts show when a bay settles (optimistic validation).
-ghost use Rattle.rules.specs.Policies.{always_yes};
-ghost use Rattle.rules.specs.Tables.{claims_of};
+ghost use Rattle.rules.specs.Policies.{nothing_in_the_way};
 ghost use Rattle.std.proofs.Common.{rules};
 
 use crate::access::Access;
-use crate::answer::Answer;
+use crate::claim_policy::ClaimPolicy;
 use crate::claim_table::ClaimTable;
-use crate::local_rule::LocalRule;
-use crate::rule_fault::RuleFault;
+use crate::table_rule::TableRule;
 
-const VARIANTS: u8 = 1;
+pub type Check = TableRule<Checking>;
 
-#[derive(Clone, Copy)]
-pub struct Check {
-    table: ClaimTable,
-}
+#[derive(Clone, Copy, PartialEq, Eq, Debug)]
+pub struct Checking;
 
-impl LocalRule for Check {
-    ghost meaning = { λ s. claims_of 0 s.table.bays };
+impl ClaimPolicy for Checking {
+    ghost number = { λ s. 0 };
 
     ghost variants = { 1 };
 
-    ghost reading = { always_yes };
+    ghost policy = { λ access. nothing_in_the_way };
 
-    ghost writing = { always_yes };
+    ghost rivals = { Prim.search rules };
 
-    ghost readers = { Prim.search rules };
-
-    ghost writers = { Prim.search rules };
-
-    fn fresh(variant: u8) -> Option<Check> {
-        if variant >= VARIANTS {
-            return None;
-        }
-        Some(Check {
-            table: ClaimTable::empty(),
-        })
+    fn of_variant(variant: u8) -> Option<Checking> {
+        (variant == 0).then_some(Checking)
     }
 
-    fn claim_read(&mut self, bay: u8, item: u8) -> Result<(), RuleFault> {
-        self.table.claim(Access::Read, bay, item, Answer::Yes)
-    }
-
-    fn claim_write(&mut self, bay: u8, item: u8) -> Result<(), RuleFault> {
-        self.table.claim(Access::Write, bay, item, Answer::Yes)
-    }
-
-    fn settle(&mut self, bay: u8) -> Result<(), RuleFault> {
-        self.table.settle(bay)
-    }
-
-    fn forget(&mut self, bay: u8) -> Result<(), RuleFault> {
-        self.table.forget(bay)
+    fn rival(&self, _table: &ClaimTable, _access: Access, _bay: u8, _item: u8) -> Option<u8> {
+        None
     }
 }

@@ -6,7 +6,6 @@ ghost use Rattle.rules.specs.Policies.{in_the_way, lock, NamesTheLowest};
 ghost use Rattle.rules.specs.Tables.{claims_of, overwritten};
 
 use crate::access::Access;
-use crate::answer::Answer;
 use crate::bay_claims::BayClaims;
 use crate::local_rule::{BAYS, ITEMS};
 use crate::rule_fault::RuleFault;
@@ -14,7 +13,7 @@ use sets::small_set::SmallSet;
 
 #[derive(Clone, Copy)]
 pub struct ClaimTable {
-    bays: [BayClaims; 8],
+    bays: [BayClaims; BAYS as usize],
 }
 
 impl ClaimTable {
@@ -22,21 +21,16 @@ impl ClaimTable {
         ensures { (v : ℕ) → claims_of v result.bays ≡ no_claims v }
     {
         ClaimTable {
-            bays: [BayClaims::none(); 8],
+            bays: [BayClaims::none(); BAYS as usize],
         }
     }
 
-    // How locks answer a claim: no with the lowest other bay that stands in the way, if any.
-    pub fn lock_answer(&self, access: Access, bay: u8, item: u8) -> Answer
+    // How locks answer a claim: the lowest other bay that stands in the way, if any.
+    pub fn lowest_in_the_way(&self, access: Access, bay: u8, item: u8) -> Option<u8>
         ensures reply { result ≡ lock access (claims_of 0 self.now.bays) bay item }
         ensures laws { NamesTheLowest access (claims_of 0 self.now.bays) bay item result }
     {
-        for other in 0..BAYS {
-            if self.stands_in_the_way(access, bay, item, other) {
-                return Answer::No(other);
-            }
-        }
-        Answer::Yes
+        (0..BAYS).find(|&other| self.stands_in_the_way(access, bay, item, other))
     }
 
     fn stands_in_the_way(&self, access: Access, bay: u8, item: u8, other: u8) -> bool
@@ -46,16 +40,16 @@ impl ClaimTable {
         bay != other && self.bays[other as usize].bars(access, item)
     }
 
-    // A claim that is answered so: yes adds the item to the bay's claims.
+    // A claim in whose way stands this bay, if any. If none does, the item is added to the bay's claims.
     pub fn claim(
         &mut self,
         access: Access,
         bay: u8,
         item: u8,
-        answer: Answer,
+        rival: Option<u8>,
     ) -> Result<(), RuleFault>
-        ensures reply { result ≡ (claim_answered answer access (claims_of 0 self.old.bays) bay item).reply }
-        ensures state { (v : ℕ) → claims_of v self.new.bays ≡ (claim_answered answer access (claims_of v self.old.bays) bay item).claims }
+        ensures reply { result ≡ (claim_answered rival access (claims_of 0 self.old.bays) bay item).reply }
+        ensures state { (v : ℕ) → claims_of v self.new.bays ≡ (claim_answered rival access (claims_of v self.old.bays) bay item).claims }
     {
         if bay >= BAYS {
             return Err(RuleFault::NoSuchBay);
@@ -63,9 +57,9 @@ impl ClaimTable {
         if item >= ITEMS {
             return Err(RuleFault::NoSuchItem);
         }
-        match answer {
-            Answer::No(other) => Err(RuleFault::ClaimedBy(other)),
-            Answer::Yes => {
+        match rival {
+            Some(other) => Err(RuleFault::ClaimedBy(other)),
+            None => {
                 let b = bay as usize;
                 self.bays[b] = self.bays[b].with(access, item);
                 Ok(())
@@ -105,11 +99,8 @@ impl ClaimTable {
 }
 
 // Every bay that read an item in `written` becomes stale.
-fn mark_readers(bays: &mut [BayClaims; 8], written: SmallSet)
+fn mark_readers(bays: &mut [BayClaims; BAYS as usize], written: SmallSet)
     ensures { bays.new ≡ map (overwritten written) bays.old }
 {
-    for bay in 0..BAYS {
-        let b = bay as usize;
-        bays[b] = bays[b].overwritten(written);
-    }
+    *bays = bays.map(|bay| bay.overwritten(written));
 }

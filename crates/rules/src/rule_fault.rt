@@ -1,6 +1,8 @@
 // Why a rule refuses a call.
-ghost use Rattle.std.specs.Prelude.{◌≡◌};
-ghost use Rattle.rules.specs.Faults.{fault_number, fault_of_rule, named_bay};
+ghost use Rattle.std.specs.Prelude.{◌≡◌, Some};
+ghost use Rattle.rules.specs.Faults.{fault_number, fault_of_rule, named_bay, fault_text};
+
+use std::fmt;
 
 #[derive(Clone, Copy, PartialEq, Eq, Debug)]
 pub enum RuleFault {
@@ -15,7 +17,7 @@ pub enum RuleFault {
 }
 
 impl RuleFault {
-    // The number under which callers report the fault.
+    // The number under which callers report the fault. A method, since the number leaves out the bay, so a `From` would lose it.
     pub fn number(&self) -> u8
         ensures { result ≡ fault_number self.now }
     {
@@ -31,10 +33,7 @@ impl RuleFault {
     pub fn raised_by_rule(&self) -> bool
         ensures { result ≡ fault_of_rule self.now }
     {
-        match self {
-            RuleFault::NoSuchBay | RuleFault::NoSuchItem => false,
-            RuleFault::ClaimedBy(_) | RuleFault::Stale => true,
-        }
+        matches!(self, RuleFault::ClaimedBy(_) | RuleFault::Stale)
     }
 
     // The bay that stands in the way, where the fault names one.
@@ -44,6 +43,19 @@ impl RuleFault {
         match self {
             RuleFault::ClaimedBy(bay) => Some(*bay),
             _ => None,
+        }
+    }
+}
+
+impl fmt::Display for RuleFault {
+    ghost output = { λ fault. Some (fault_text fault) };
+
+    fn fmt<W: fmt::Write>(&self, f: &mut fmt::Formatter<W>) -> fmt::Result {
+        match self {
+            RuleFault::NoSuchBay => write!(f, "no such bay"),
+            RuleFault::NoSuchItem => write!(f, "no such item"),
+            RuleFault::ClaimedBy(bay) => write!(f, "no, bay {bay} claims it"),
+            RuleFault::Stale => write!(f, "no, it is stale"),
         }
     }
 }

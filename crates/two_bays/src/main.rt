@@ -1,6 +1,7 @@
 //! Two bays meet at one item: under locks the second is refused at once, under the check rule the reader fails when it settles.
 #![tactic(auto)]
 
+use rules::access::Access;
 use rules::check::Check;
 use rules::local_rule::LocalRule;
 use rules::locks::Locks;
@@ -10,10 +11,7 @@ use std::io;
 fn tell(rt: HostRuntime, step: &str, reply: Result<(), RuleFault>) -> io::Result<()> {
     match reply {
         Ok(()) => println!(rt; "{step}: yes"),
-        Err(RuleFault::NoSuchBay) => println!(rt; "{step}: no such bay"),
-        Err(RuleFault::NoSuchItem) => println!(rt; "{step}: no such item"),
-        Err(RuleFault::ClaimedBy(bay)) => println!(rt; "{step}: no, bay {bay} claims it"),
-        Err(RuleFault::Stale) => println!(rt; "{step}: no, it is stale"),
+        Err(fault) => println!(rt; "{step}: {fault}"),
     }
 }
 
@@ -21,8 +19,8 @@ fn tell(rt: HostRuntime, step: &str, reply: Result<(), RuleFault>) -> io::Result
 fn meet<R: LocalRule + Drop>(rt: HostRuntime, rule: Option<R>) -> io::Result<()> {
     match rule {
         Some(mut rule) => {
-            tell(rt, "bay 0 reads item 5", rule.claim_read(0, 5))?;
-            tell(rt, "bay 1 writes item 5", rule.claim_write(1, 5))?;
+            tell(rt, "bay 0 reads item 5", rule.claim(Access::Read, 0, 5))?;
+            tell(rt, "bay 1 writes item 5", rule.claim(Access::Write, 1, 5))?;
             tell(rt, "bay 1 settles", rule.settle(1))?;
             tell(rt, "bay 0 settles", rule.settle(0))
         }
