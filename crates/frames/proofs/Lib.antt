@@ -1,6 +1,5 @@
 pub mod DigitValues
 pub mod Reading
 pub mod OneForm
-pub mod FrameSizes
 pub mod Cutting
 pub mod Writing

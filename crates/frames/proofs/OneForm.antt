@@ -1,7 +1,8 @@
 -- Reading and writing have one form: what is written is read back as the same bytes, and what is read is written again as the same digits.
 use Rattle.std.proofs.Common.{◌≡◌, ℕ, ◌*◌, ◌<◌, true, false, List, [], ◌∷◌, length, Some, None, Option, sym, refl, ◌∙◌, ⊎_elim, arith}
 use Rattle.std.proofs.lemmas.Bool.{cases_Bool}
-use Rattle.std.specs.List.{AllByRecursion}
+use Rattle.std.proofs.lemmas.List.Elements.{All-nil, All-cons, All-head, All-tail}
+use Rattle.std.specs.List.{All}
 use Rattle.frames.specs.Digits.{byte_of, digits}
 use Rattle.frames.specs.Decoding.{with_byte, pairs, line_length, decoded}
 use Rattle.frames.specs.FrameSize.{FitsFrame}
@@ -10,9 +11,10 @@ use Rattle.frames.proofs.DigitValues.{byte_of_digits, digits_of_byte, length_dig
 use Rattle.frames.proofs.Reading.{decoded_pairs, decoded_malformed, line_length_true, line_length_from}
 
 -- What is written is read back.
-pairs_of_digits : (bytes : List ℕ) → AllByRecursion (λ b. b < 256) bytes → pairs (digits bytes) ≡ Some bytes
+pairs_of_digits : (bytes : List ℕ) → All (λ b. b < 256) bytes → pairs (digits bytes) ≡ Some bytes
 pairs_of_digits [] bounded = refl
-pairs_of_digits (b ∷ bytes) bounded = rw (byte_of_digits b bounded.0, pairs_of_digits bytes bounded.1)
+pairs_of_digits (b ∷ bytes) bounded =
+    rw (byte_of_digits b (All-head (λ x. x < 256) b bytes bounded), pairs_of_digits bytes (All-tail (λ x. x < 256) b bytes bounded))
 
 pub decoded_of_digits : (bytes : List ℕ) → FitsFrame bytes → decoded (digits bytes) ≡ Some bytes
 decoded_of_digits bytes fits =
@@ -25,11 +27,11 @@ decoded_of_digits bytes fits =
 -- The bytes of a text of paired digits: its digits are theirs, and they are bytes, half as many.
 record BytesOf (text bytes : List ℕ) : Type 0 where
   same_digits : digits bytes ≡ text
-  bounded : AllByRecursion (λ b. b < 256) bytes
+  bounded : All (λ b. b < 256) bytes
   half : 2 * length bytes ≡ length text
 
 bytes_of_pairs : (text bytes : List ℕ) → pairs text ≡ Some bytes → BytesOf text bytes
-bytes_of_pairs [] [] e = record { same_digits = refl; bounded = tt; half = refl }
+bytes_of_pairs [] [] e = record { same_digits = refl; bounded = All-nil (λ x. x < 256); half = refl }
 bytes_of_pairs [] (b ∷ bytes) e = absurd (grind arith)
 bytes_of_pairs (first ∷ []) bytes e = absurd (grind arith)
 bytes_of_pairs (first ∷ second ∷ text) bytes e = go (byte_of first second) (pairs text) refl refl (bytes_of_pairs text) e
@@ -47,7 +49,7 @@ bytes_of_pairs (first ∷ second ∷ text) bytes e = go (byte_of first second) (
         rw is
         (record {
           same_digits = rw (front.high_is, front.low_is, back.same_digits);
-          bounded = (front.bounded, back.bounded);
+          bounded = All-cons (λ x. x < 256) b tail front.bounded back.bounded;
           half = omega arith;
         })
 

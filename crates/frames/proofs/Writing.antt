@@ -1,7 +1,8 @@
 -- What a loop has written of a line over the front of memory, and what the line that it ends with promises.
-use Rattle.std.proofs.Common.{◌≡◌, ℕ, ◌+◌, ◌*◌, ◌/◌, ◌%◌, ◌<◌, ◌≤◌, List, [], ◌∷◌, ◌++◌, length, get_or, take, drop, set, sym, refl, ap, ◌∙◌, arith}
-use Rattle.std.specs.List.{AllByRecursion}
+use Rattle.std.proofs.Common.{◌≡◌, ◌≢◌, ℕ, ◌+◌, ◌*◌, ◌/◌, ◌%◌, ◌<◌, ◌≤◌, List, [], ◌∷◌, ◌++◌, length, get_or, take, drop, set, sym, refl, ap, ◌∙◌, arith}
+use Rattle.std.specs.List.{All}
 use Rattle.std.proofs.lemmas.List.{append_assoc, drop_more, drop_at, take_more, take_all, set_at, length_push, length-take-le}
+use Rattle.std.proofs.lemmas.List.Elements.{All-nil, All-cons}
 use Rattle.frames.specs.Digits.{high_digit, low_digit, digits}
 use Rattle.frames.specs.Writing.{encoded_line, line_size}
 use Rattle.frames.specs.Lines.{lines}
@@ -50,11 +51,13 @@ put_newline out memory bytes i past within room inv =
     ∙ put_one (digits bytes) memory (2 * length bytes) 10 (length_digits bytes) room
 
 digits_no_newline : (bytes : List ℕ) → NoNewline (digits bytes)
-digits_no_newline [] = tt
-digits_no_newline (b ∷ bytes) = (digit_no_newline (b / 16), (digit_no_newline (b % 16), digits_no_newline bytes))
+digits_no_newline [] = All-nil (λ x. x ≢ 10)
+digits_no_newline (b ∷ bytes) =
+    All-cons (λ x. x ≢ 10) (high_digit b) (low_digit b ∷ digits bytes) (digit_no_newline (b / 16))
+    (All-cons (λ x. x ≢ 10) (low_digit b) (digits bytes) (digit_no_newline (b % 16)) (digits_no_newline bytes))
 
 -- What was written keeps its law.
-pub reads_back : (bytes memory : List ℕ) → AllByRecursion (λ b. b < 256) bytes → ReadsBack bytes (encoded_line bytes ++ memory) (line_size bytes)
+pub reads_back : (bytes memory : List ℕ) → All (λ b. b < 256) bytes → ReadsBack bytes (encoded_line bytes ++ memory) (line_size bytes)
 reads_back bytes memory bounded =
     let n = length_digits bytes in
     let p = length_push (digits bytes) 10 in

@@ -1,6 +1,5 @@
 -- What reading, writing and cutting promise, in words that do not say how they are done.
-use Rattle.std.specs.Prelude.{◌≡◌, ℕ, ◌+◌, ◌≤◌, ◌⊎◌, List, [], ◌∷◌, length, take, drop, Some, None, Option, ◌≢◌, slice_index}
-use Rattle.std.specs.List.{AllByRecursion}
+use Rattle.std.specs.Prelude.{◌≡◌, ℕ, ◌+◌, ◌≤◌, ◌⊎◌, List, [], ◌∷◌, length, take, drop, Some, None, Option, ◌≢◌, slice_index, All}
 use Rattle.frames.specs.Digits.{digits}
 use Rattle.frames.specs.Decoding.{decoded}
 use Rattle.frames.specs.FrameSize.{FitsFrame}
@@ -22,7 +21,7 @@ Writes bytes (Some size) out = ReadsBack bytes out size
 Writes bytes None out = Unit {0}
 
 abbrev pub NoNewline : List ℕ → Type 0
-NoNewline text = AllByRecursion (λ b. b ≢ 10) text
+NoNewline text = All (λ b. b ≢ 10) text
 
 -- A line has no newline in its text. It ends with a newline, or where the input ends.
 pub record LineEnds (input : List ℕ) (l : Line) : Type 0 where

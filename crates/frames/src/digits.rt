@@ -1,5 +1,5 @@
 // Digits 0 to 9 and A to F, as bytes of text. Two of them stand for a byte, the high one first.
-ghost use Rattle.std.specs.Prelude.{◌≡◌, ◌<◌};
+ghost use Rattle.std.specs.Prelude.{◌≡◌, ◌<◌, [], ◌∷◌};
 ghost use Rattle.frames.specs.Digits.{digit_value, digit_for, byte_of, high_digit, low_digit};
 
 // The value of a digit; nothing for any other character.
@@ -17,10 +17,9 @@ fn value(character: u8) -> Option<u8>
 pub(crate) fn byte(first: u8, second: u8) -> Option<u8>
     ensures reply { result ≡ byte_of first second }
 {
-    match (value(first), value(second)) {
-        (Some(high), Some(low)) => Some(high * 16 + low),
-        _ => None,
-    }
+    let high = value(first)?;
+    let low = value(second)?;
+    Some(high * 16 + low)
 }
 
 // The digit that stands for a value below 16.
@@ -35,14 +34,9 @@ fn digit(value: u8) -> u8
     }
 }
 
-pub(crate) fn high_digit(byte: u8) -> u8
-    ensures reply { result ≡ high_digit byte }
+// The digits that stand for a byte, the high one first.
+pub(crate) fn digits(byte: u8) -> [u8; 2]
+    ensures reply { result ≡ high_digit byte ∷ low_digit byte ∷ [] }
 {
-    digit(byte / 16)
-}
-
-pub(crate) fn low_digit(byte: u8) -> u8
-    ensures reply { result ≡ low_digit byte }
-{
-    digit(byte % 16)
+    [digit(byte / 16), digit(byte % 16)]
 }

@@ -1,4 +1,5 @@
 // Cutting input into lines: where its first line ends.
+ghost use Rattle.std.specs.Prelude.{◌≡◌, ◌==◌, position};
 ghost use Rattle.frames.specs.Lines.{FirstLine};
 ghost use Rattle.frames.specs.Laws.{Ends};
 
@@ -14,25 +15,29 @@ pub struct Line {
     pub size: usize,
 }
 
+// Where the first newline of an input is.
+fn first_newline(input: &[u8]) -> Option<usize>
+    ensures reply { result ≡ position (λ b. b == 10) input.now }
+{
+    input.iter().position(|&byte| byte == NEWLINE)
+}
+
 // Nothing for an empty input. The last line of an input, unless it is empty, may lack its newline.
 pub fn first_line(input: &[u8]) -> Option<Line>
     ensures reply { FirstLine input.now result }
     ensures laws { Ends input.now result }
 {
-    let count = input.len();
-    if count == 0 {
+    if input.is_empty() {
         return None;
     }
-    for i in 0..count {
-        if input[i] == NEWLINE {
-            return Some(Line {
-                length: i,
-                size: i + 1,
-            });
-        }
+    match first_newline(input) {
+        Some(length) => Some(Line {
+            length,
+            size: length + 1,
+        }),
+        None => Some(Line {
+            length: input.len(),
+            size: input.len(),
+        }),
     }
-    Some(Line {
-        length: count,
-        size: count,
-    })
 }

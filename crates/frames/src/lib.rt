@@ -5,7 +5,6 @@ pub mod decode;
 mod digits;
 pub mod first_line;
 pub mod frame;
-pub mod frame_bytes;
 #[cfg(test)]
 mod tests;
 pub mod write_line;

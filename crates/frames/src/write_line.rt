@@ -3,7 +3,7 @@ ghost use Rattle.std.specs.Prelude.{◌≡◌};
 ghost use Rattle.frames.specs.Laws.{Writes};
 ghost use Rattle.frames.specs.Writing.{write_reply, written_over};
 
-use crate::digits::{high_digit, low_digit};
+use crate::digits::digits;
 use crate::first_line::NEWLINE;
 
 // Writes the line of `bytes` over the front of `out` and says how many bytes it takes up. Where it does not fit, nothing is written.
@@ -16,9 +16,11 @@ pub fn write_line(out: &mut [u8], bytes: &[u8]) -> Option<usize>
     if end >= out.len() {
         return None;
     }
-    for i in 0..bytes.len() {
-        out[2 * i] = high_digit(bytes[i]);
-        out[2 * i + 1] = low_digit(bytes[i]);
+    // By index: over `chunks_exact_mut` zipped with the bytes the proof did not close ("`search` did not prove `returns-clause-memory`, `returns-clause-laws`"), as only the length of what it lends is known afterwards.
+    for (i, &byte) in bytes.iter().enumerate() {
+        let [high, low] = digits(byte);
+        out[2 * i] = high;
+        out[2 * i + 1] = low;
     }
     out[end] = NEWLINE;
     Some(end + 1)

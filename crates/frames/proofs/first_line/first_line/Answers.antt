@@ -1,29 +1,17 @@
-use Rattle.std.proofs.Common.{◌≡◌, arith}
-use Rattle.std.proofs.ByRecursion.{All-more}
-use Rattle.std.proofs.lemmas.List.{nil_from_length}
-use Rattle.frames.proofs.Cutting.{cut_at_newline, cut_at_end, ends_at_newline, ends_at_end, whole_input}
+use Rattle.std.proofs.Common.{length, sym, arith}
+use Rattle.std.proofs.lemmas.Bool.{eqb-false}
+use Rattle.frames.proofs.Cutting.{cut_at_newline, cut_at_end, ends_at_newline, ends_at_end}
 use Rattle.frames.proofs.first_line.first_line.Goals as goal
 
-pub returns-then-count-eq0 : goal.returns-then-count-eq0
-returns-then-count-eq0 c =
-    let none = nil_from_length c.args.input.now c.if-count-eq0.true in
-    record { reply = none; laws = none }
-
-pub returns-then-input-i-eq-NEWLINE : goal.returns-then-input-i-eq-NEWLINE
-returns-then-input-i-eq-NEWLINE c =
+pub returns-in-Some : goal.returns-in-Some
+returns-in-Some c =
     let input = c.args.input.now in
-    let i = c.loop-i.i in
-    record {
-      reply = cut_at_newline input i c.loop-i.invariant c.loop-i-test.true c.if-input-i-eq-NEWLINE.true;
-      laws = ends_at_newline input i c.loop-i.invariant c.if-input-i-eq-NEWLINE.true;
-    }
+    let found = c.in-Some.ensures.reply in
+    record { reply = cut_at_newline input c.in-Some.length found; laws = ends_at_newline input c.in-Some.length found }
 
-pub loop-i-preserved : goal.loop-i-preserved
-loop-i-preserved c =
-    All-more (λ b. b ≡ 10 → ⊥) c.args.input.now c.loop-i.i 0 c.loop-i-test.true c.loop-i.invariant c.if-input-i-eq-NEWLINE.false
-
-pub returns : goal.returns
-returns c =
+pub returns-in-None : goal.returns-in-None
+returns-in-None c =
     let input = c.args.input.now in
-    let none = whole_input input c.loop-i.i c.loop-i.invariant c.loop-i-test.false in
-    record { reply = cut_at_end input none (omega arith); laws = ends_at_end input none }
+    let found = c.in-None.ensures.reply in
+    let some = eqb-false (length input) 0 (sym c.if-is_empty.ensures) in
+    record { reply = cut_at_end input found (omega arith); laws = ends_at_end input found }

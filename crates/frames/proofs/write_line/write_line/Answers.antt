@@ -1,5 +1,5 @@
-use Rattle.std.proofs.Common.{ℕ, ◌*◌, ◌<◌, ltb, List, length, drop, sym, ◌∙◌, subst, arith}
-use Rattle.std.proofs.ByRecursion.{All-from_get_or}
+use Rattle.std.proofs.Common.{ℕ, ◌*◌, ◌<◌, ltb, List, length, get_or, drop, sym, ap, ◌∙◌, subst, arith}
+use Rattle.std.proofs.lemmas.List.Elements.{All-from_get_or}
 use Rattle.std.proofs.lemmas.Bool.{cond-true, lt-ltb}
 use Rattle.frames.specs.Laws.{ReadsBack}
 use Rattle.frames.specs.Writing.{line_size}
@@ -8,7 +8,7 @@ use Rattle.frames.proofs.write_line.write_line.Goals as goal
 
 pub loop-i-preserved : goal.loop-i-preserved
 loop-i-preserved c =
-    put_pair c.loop-i.out c.args.out.now c.args.bytes.now c.loop-i.i c.high_digit.result c.low_digit.result c.loop-i-test.true (omega arith) c.high_digit.ensures.reply c.low_digit.ensures.reply c.loop-i.invariant
+    put_pair c.loop-i.out c.args.out.now c.args.bytes.now c.loop-i.i _ _ c.loop-i-test.true (omega arith) (ap (λ z. get_or z 0 0) c.digits.ensures.reply) (ap (λ z. get_or z 1 0) c.digits.ensures.reply) c.loop-i.invariant
 
 pub returns : goal.returns
 returns c =
