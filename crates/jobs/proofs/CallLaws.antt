@@ -2,6 +2,8 @@
 use Rattle.std.proofs.Common.{◌≡◌, ℕ, ◌<◌, ◌≤◌, true, ◌∷◌, sym, subst, arith}
 use Rattle.cells.specs.declared.value.Value.{Ghosts as ValueGhosts}
 use Rattle.orders.specs.declared.class_order.ClassOrder.{Ghosts as OrderGhosts}
+use Rattle.rules.specs.declared.access.Access.{Access}
+use Rattle.rules.specs.declared.access.Access.TheVariants.{Read, Write}
 use Rattle.rules.specs.Rivals.{NamesARival}
 use Rattle.rules.specs.declared.local_rule.LocalRule.{Ghosts as RuleGhosts}
 use Rattle.laws.specs.Setting.{Setting, Lawful}
@@ -23,8 +25,7 @@ pub record KeptLaws {O R : Type 0} (o : OrderGhosts O) (r : RuleGhosts R) : Type
   pub transitive : (s : O) (c d e : ℕ) → c < o.classes s → d < o.classes s → e < o.classes s
       → o.dominates s c d ≡ true → o.dominates s d e ≡ true → o.dominates s c e ≡ true
   pub monotone : (s : O) (c d : ℕ) → c < o.classes s → d < o.classes s → o.dominates s c d ≡ true → (c ≡ d → ⊥) → o.grade s d < o.grade s c
-  pub readers : NamesARival r.reading
-  pub writers : NamesARival r.writing
+  pub rivals : (access : Access) → NamesARival (r.policy access)
 
 module _ {O V R : Type 0} (o : OrderGhosts O) (v : ValueGhosts V) (r : RuleGhosts R) (k : KeptLaws o r) where
   -- What a register is set up with is lawful, once its clock goes round the grades of its order.
@@ -41,8 +42,8 @@ module _ {O V R : Type 0} (o : OrderGhosts O) (v : ValueGhosts V) (r : RuleGhost
     graded = t.not_exceeded;
     top_reached = t.reached;
     few_grades = x.clock.low;
-    reading_fair = k.readers;
-    writing_fair = k.writers;
+    reading_fair = k.rivals Read;
+    writing_fair = k.rivals Write;
   }
 
   pub lawfully : (x : Register O) (m : Memory V R) (q : Request V) (y : Reply V) (x' : Register O) (m' : Memory V R)

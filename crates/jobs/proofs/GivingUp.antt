@@ -1,5 +1,5 @@
 -- The ways through a call that gives a job up.
-use Rattle.std.proofs.Common.{ℕ, ◌<◌, length, ap}
+use Rattle.std.proofs.Common.{ℕ, ap}
 use Rattle.cells.specs.declared.value.Value.{Ghosts as ValueGhosts}
 use Rattle.orders.specs.declared.class_order.ClassOrder.{Ghosts as OrderGhosts}
 use Rattle.rules.specs.Claims.{forgotten}
@@ -24,10 +24,9 @@ module _ {O V R : Type 0} (o : OrderGhosts O) (v : ValueGhosts V) (r : RuleGhost
   pub was_free : Inside o v r x m c b give_up Free → Exit o v r x m (by c b give_up) (refused bay_free) x m
   was_free h = refuses o v r x m c b give_up Free h bay_free (ap gives_up h.bay)
 
-  module _ (l : c < length x.classes) (n : b < length (class_in x c).bays) where
-    pub was_closed : Inside o v r x m c b give_up Closed → Exit o v r x m (by c b give_up) done (with_class_in x c (with_bay_in (class_in x c) b Free)) m
-    was_closed h = bay_becomes o v r x m c b give_up Closed h done Free l n (ap gives_up h.bay)
+  pub was_closed : Inside o v r x m c b give_up Closed → Exit o v r x m (by c b give_up) done (with_class_in x c (with_bay_in (class_in x c) b Free)) m
+  was_closed h = bay_becomes o v r x m c b give_up Closed h done Free (ap gives_up h.bay)
 
-    pub was_open : (j : Job) → Inside o v r x m c b give_up (Open j) → (m' : Memory V R) → RuleBecomes r c (forgotten b (claims_here o v r x m c b)) m m'
-        → Exit o v r x m (by c b give_up) done (with_class_in x c (with_bay_in (class_in x c) b Free)) m'
-    was_open j h m' w = job_ends o v r x m c b give_up (Open j) h done m' l n w (ap gives_up h.bay)
+  pub was_open : (j : Job) → Inside o v r x m c b give_up (Open j) → (m' : Memory V R) → RuleBecomes r c (forgotten b (claims_here o v r x m c b)) m m'
+      → Exit o v r x m (by c b give_up) done (with_class_in x c (with_bay_in (class_in x c) b Free)) m'
+  was_open j h m' w = job_ends o v r x m c b give_up (Open j) h done m' w (ap gives_up h.bay)

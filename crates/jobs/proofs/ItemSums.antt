@@ -1,6 +1,6 @@
 -- Sums of the item counts of the first classes.
-use Rattle.std.proofs.Common.{◌≡◌, ℕ, zero, suc, ◌+◌, ◌<◌, ◌≤◌, Bool, true, false, ltb, List, [], ◌∷◌, get_or, sum, refl, arith}
-use Rattle.std.proofs.lemmas.List.Sums.{sum_by-cons}
+use Rattle.std.proofs.Common.{◌≡◌, ℕ, zero, suc, ◌+◌, ◌<◌, ◌≤◌, Bool, true, false, ltb, List, [], ◌∷◌, get_or, length, sum, take, refl, ◌∙◌, arith}
+use Rattle.std.proofs.lemmas.List.Sums.{sum_by-cons, sum_by_more}
 use Rattle.std.proofs.lemmas.Bool.{ltb-true, ltb-false}
 use Rattle.laws.specs.Setting.{sum_below}
 
@@ -21,6 +21,14 @@ sum_most (i ∷ items) (suc n) =
     let rest : sum_below n (λ c. get_or items c 0) ≤ sum items = sum_most items n in
     let all : sum (i ∷ items) ≡ i + sum items = sum_by-cons (λ x. x) i items in
     rw (first, all) (omega arith)
+
+-- What the first classes have together.
+pub sum_first : (items : List ℕ) (n : ℕ) → n ≤ length items → sum (take n items) ≡ sum_below n (λ c. get_or items c 0)
+sum_first items zero h = refl
+sum_first items (suc n) h =
+    let next : n + 1 ≡ suc n = omega arith in
+    let more = sum_by_more (λ x. x) items n 0 (omega arith) in
+    rw (← next) (more ∙ rw (sum_first items n (omega arith)) (omega arith))
 
 -- The cells of a class end where those of the next begin, or before.
 pub sum_in : (f : ℕ → ℕ) (c n : ℕ) → c < n → sum_below c f + f c ≤ sum_below n f

@@ -9,13 +9,11 @@ pub mod Beginning
 pub mod PendingLists
 pub mod PendingStores
 pub mod BayPlaces
-pub mod RuleChanges
 pub mod ClaimReplies
 pub mod DeclaredBound
 pub mod Writing
 pub mod ClassCells
 pub mod Committing
-pub mod RuleSteps
 pub mod Sweeping
 pub mod SweptClasses
 pub mod Ticking

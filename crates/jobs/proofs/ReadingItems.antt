@@ -1,12 +1,12 @@
 -- The ways through a read.
-use Rattle.std.proofs.Common.{◌≡◌, ℕ, ◌-◌, ◌<◌, ◌≤◌, Bool, true, false, cond, ◌&&◌, ltb, List, map, length, get_or, Some, None, sym, ap, ◌∙◌, ap₂}
+use Rattle.std.proofs.Common.{◌≡◌, ℕ, ◌-◌, ◌<◌, ◌≤◌, Bool, true, false, cond, ◌&&◌, ltb, List, map, get_or, Some, None, sym, ap, ◌∙◌, ap₂}
 use Rattle.std.proofs.lemmas.Bool.{and_parts, lt-ltb, le-ltb, eq-eqb, ne_eqb}
 use Rattle.cells.specs.Versions.{fresh}
 use Rattle.cells.specs.Cells.{versions, item}
 use Rattle.cells.specs.declared.value.Value.{Ghosts as ValueGhosts}
 use Rattle.orders.specs.declared.class_order.ClassOrder.{Ghosts as OrderGhosts}
 use Rattle.rules.specs.Claims.{Claims, with_read}
-use Rattle.rules.specs.declared.answer.Answer.TheVariants.{Yes, No}
+use Rattle.rules.specs.declared.access.Access.TheVariants.{Read}
 use Rattle.rules.specs.declared.local_rule.LocalRule.{Ghosts as RuleGhosts}
 use Rattle.laws.specs.Setting.{Setting, bay_count}
 use Rattle.laws.specs.State as definition
@@ -80,16 +80,15 @@ module _ {O V R : Type 0} (o : OrderGhosts O) (v : ValueGhosts V) (r : RuleGhost
 
         module _ (u : UpdateJob) (q : j ≡ Update u) where
           -- From below, at the down number.
-          pub below : ¬ (c ≡ d) → c < length x.classes → b < length (class_in x c).bays
-              → (a : ℕ) → a ≡ or_else u.down (declared x.clock.top (o.grade x.order c - 1) x.clock.ticks)
+          pub below : ¬ (c ≡ d) → (a : ℕ) → a ≡ or_else u.down (declared x.clock.top (o.grade x.order c - 1) x.clock.ticks)
               → (w : V) → w ≡ or_else (value_at a found_versions) v.starting
               → Exit o v r x m (by c b (read d i)) (got w) (with_class_in x c (with_bay_in (class_in x c) b (Open (Update (record { down = Some a; pending = u.pending }))))) m
-          below ne lc lb a p w f =
+          below ne a p w f =
               let new : Bay = Open (Update (record { down = Some a; pending = u.pending })) in
               let k : definition.Bay V = bay_of values new in
               let as_got : definition.Cell V → Outcome V = λ z. answer (got (or_else (value_at a z) v.starting)) (with_bay K b k) in
               let as_value : V → Outcome V = λ z. answer (got z) (with_bay K b k) in
-              bay_becomes o v r x m c b (read d i) (Open j) h (got w) new lc lb
+              bay_becomes o v r x m c b (read d i) (Open j) h (got w) new
               (ap reads h.bay ∙ proceeds ∙ rw (q, ne_eqb c d ne, ← p) (ap as_got cell) ∙ ap as_value (sym f))
 
           -- From the own class.
@@ -100,20 +99,20 @@ module _ {O V R : Type 0} (o : OrderGhosts O) (v : ValueGhosts V) (r : RuleGhost
             pub own_pending : (w : V) → Some w ≡ find i (pending_of u.pending values) → Exit o v r x m (by c b (read d i)) (got w) x m
             own_pending w f = stays o v r x m c b (read d i) (Open j) h (got w) (ap reads h.bay ∙ owns ∙ rw (← f))
 
-            module _ (f : None ≡ find i (pending_of u.pending values)) (lc : c < length x.classes) (k : Claims) (m' : Memory V R) (z : RuleBecomes r c k m m') where
+            module _ (f : None ≡ find i (pending_of u.pending values)) (k : Claims) (m' : Memory V R) (z : RuleBecomes r c k m m') where
               asks : reads (Open j)
-                  ≡ claimed (r.reading (claims_here o v r x m c b) b i)
+                  ≡ claimed (r.policy Read (claims_here o v r x m c b) b i)
                   (answer (got (or_else (newest_value (cell_of S m.cells.now c i)) v.starting)) (class_with o v r x m c b (class_in x c) (with_read b i (claims_here o v r x m c b)))) K
               asks = owns ∙ rw (← f)
 
-              pub own_denied : (rival : ℕ) → r.reading (claims_here o v r x m c b) b i ≡ No rival → k ≡ claims_here o v r x m c b
+              pub own_denied : (rival : ℕ) → r.policy Read (claims_here o v r x m c b) b i ≡ Some rival → k ≡ claims_here o v r x m c b
                   → Exit o v r x m (by c b (read d i)) (denied rival) x m'
               own_denied rival n is =
                   let as_denied : Claims → Outcome V = λ y. answer (denied rival) (class_with o v r x m c b (class_in x c) y) in
                   at_memory o v r x m (by c b (read d i)) (denied rival) x z.1
-                  (rule_changes o v r x m c b (read d i) (Open j) h (denied rival) z.0 lc (ap reads h.bay ∙ asks ∙ rw n (ap as_denied (sym (z.2 ∙ is)))))
+                  (rule_changes o v r x m c b (read d i) (Open j) h (denied rival) z.0 (ap reads h.bay ∙ asks ∙ rw n (ap as_denied (sym (z.2 ∙ is)))))
 
-              pub own_claimed : r.reading (claims_here o v r x m c b) b i ≡ Yes → k ≡ with_read b i (claims_here o v r x m c b)
+              pub own_claimed : r.policy Read (claims_here o v r x m c b) b i ≡ None → k ≡ with_read b i (claims_here o v r x m c b)
                   → (w : V) → w ≡ or_else (newest_value found_versions) v.starting
                   → Exit o v r x m (by c b (read d i)) (got w) x m'
               own_claimed n is w g =
@@ -122,5 +121,5 @@ module _ {O V R : Type 0} (o : OrderGhosts O) (v : ValueGhosts V) (r : RuleGhost
                   let as_value : V → Outcome V = λ y. answer (got y) (class_with o v r x m c b (class_in x c) (r.meaning z.0)) in
                   let own_cell : cell_of S m.cells.now c i ≡ found_versions = ap (λ (e : ℕ). cell_of S m.cells.now e i) same ∙ cell_d in
                   at_memory o v r x m (by c b (read d i)) (got w) x z.1
-                  (rule_changes o v r x m c b (read d i) (Open j) h (got w) z.0 lc
+                  (rule_changes o v r x m c b (read d i) (Open j) h (got w) z.0
                   (ap reads h.bay ∙ asks ∙ rw n (ap₂ as_claimed own_cell (sym (z.2 ∙ is))) ∙ ap as_value (sym g)))

@@ -1,12 +1,8 @@
--- Closing the late jobs of a class, bay by bay in the rule.
-use Rattle.std.proofs.Common.{◌≡◌, ℕ, ◌+◌, ◌<◌, Bool, true, false, not, ◌&&◌, ◌||◌, eqb, ltb, length, sym, refl, ap, ◌∙◌, arith}
+-- Forgetting the late jobs of a class, bay by bay.
+use Rattle.std.proofs.Common.{◌≡◌, ℕ, ◌+◌, ◌<◌, Bool, true, false, not, ◌&&◌, ◌||◌, eqb, ltb, sym, refl, ap, ◌∙◌, arith}
 use mathlib.Core.Path.{fun_ext}
 use Rattle.rules.specs.Claims.{Claims, without, forgotten}
-use Rattle.rules.specs.declared.local_rule.LocalRule.{Ghosts as RuleGhosts}
-use Rattle.jobs.specs.Represents.{claims_in}
-use Rattle.jobs.specs.Lent.{RuleBecomes}
-use Rattle.jobs.specs.declared.memory.Memory.{Memory}
-use Rattle.jobs.proofs.RuleSteps.{rule_stays, rule_then, rule_means}
+use Rattle.rules.specs.Calls.{forgetting}
 use Rattle.std.proofs.lemmas.Bool.{eqb-true, eqb-false, ltb-true, ltb-false, lt-ltb, le-ltb, and_left, and_right}
 
 -- Another number than b is below b + 1 as it is below b.
@@ -50,18 +46,6 @@ module _ (p : ℕ → Bool) (k : Claims) (b : ℕ) where
           and_right (ltb d b) (p d) z ∙ sym (and_right (ltb d (b + 1)) (p d) z)
       go d false f = ap (λ (q : Bool). q && p d) (same_below b d (eqb-false b d f))
 
--- The rule of class c has forgotten those of the first b bays that p names: it comes to the next bay.
-module _ {V R : Type 0} (r : RuleGhosts R) (c : ℕ) (p : ℕ → Bool) (k : Claims) (b : ℕ) (m m' m'' : Memory V R) where
-  pub rule_forgets : c < length m.rules.now → p b ≡ true → RuleBecomes r c (without (first p b) k) m m'
-      → RuleBecomes r c (forgotten b (claims_in r m'.rules.now c)) m' m'' → RuleBecomes r c (without (first p (b + 1)) k) m m''
-  rule_forgets h e w z =
-      let y = rule_then r c (without (first p b) k) (forgotten b (claims_in r m'.rules.now c)) m m' m'' w z in
-      (y.0, y.1, y.2 ∙ ap (forgotten b) (rule_means r c (without (first p b) k) m m' h w) ∙ forget_next p k b e)
-
-  pub rule_keeps : p b ≡ false → RuleBecomes r c (without (first p b) k) m m' → m'' ≡ m' → RuleBecomes r c (without (first p (b + 1)) k) m m''
-  rule_keeps e w z = (w.0, z ∙ w.1, w.2 ∙ keep_next p k b e)
-
--- It begins with no bay.
-pub rule_starts : {V R : Type 0} (r : RuleGhosts R) (c : ℕ) (p : ℕ → Bool) (m : Memory V R) → c < length m.rules.now
-    → RuleBecomes r c (without (first p 0) (claims_in r m.rules.now c)) m m
-rule_starts r c p m h = let z = rule_stays r c m h in (z.0, z.1, z.2 ∙ forget_none p (claims_in r m.rules.now c))
+-- No rule refuses to forget one of the eight bays.
+pub forgets : (k : Claims) (b : ℕ) → b < 8 → (forgetting k b).claims ≡ forgotten b k
+forgets k b h = let e = lt-ltb b 8 h in rw e

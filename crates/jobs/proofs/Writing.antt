@@ -6,7 +6,6 @@ use Rattle.std.proofs.lemmas.Bool.{lt-ltb, le-ltb, le-leb, lt-leb, eqb-false, ca
 use Rattle.cells.specs.declared.value.Value.{Ghosts as ValueGhosts}
 use Rattle.orders.specs.declared.class_order.ClassOrder.{Ghosts as OrderGhosts}
 use Rattle.rules.specs.Claims.{Claims, with_write}
-use Rattle.rules.specs.declared.answer.Answer.TheVariants.{Yes, No}
 use Rattle.rules.specs.declared.local_rule.LocalRule.{Ghosts as RuleGhosts}
 use Rattle.laws.specs.Setting.{Setting}
 use Rattle.laws.specs.State as definition
@@ -92,20 +91,20 @@ module _ {O V R : Type 0} (o : OrderGhosts O) (v : ValueGhosts V) (r : RuleGhost
   pub too_many : 8 ≤ k → Exit o v r x m (by c b (write i (Some u))) (refused too_many_pending) x m
   too_many l = refuses o v r x m c b (write i (Some u)) (Open (Update job)) h too_many_pending (goes ∙ rw (le-leb 8 k l))
 
-  module _ (l : c < length x.classes) (fits : k < 8) where
+  module _ (fits : k < 8) where
     -- Another bay stands in the way: the rule means what it meant.
-    pub is_denied : (rival : ℕ) → S.writing (claims_here o v r x m c b) b i ≡ No rival → (m' : Memory V R) → RuleBecomes r c (claims_here o v r x m c b) m m'
+    pub is_denied : (rival : ℕ) → S.writing (claims_here o v r x m c b) b i ≡ Some rival → (m' : Memory V R) → RuleBecomes r c (claims_here o v r x m c b) m m'
         → Exit o v r x m (by c b (write i (Some u))) (denied rival) x m'
     is_denied rival e m' w =
         let with_meaning : Claims → Outcome V = λ j. answer (denied rival) (class_of S m.cells.now m.pending.now c (class_in x c) j) in
         at_memory o v r x m (by c b (write i (Some u))) (denied rival) x w.1
-        (rule_changes o v r x m c b (write i (Some u)) (Open (Update job)) h (denied rival) w.0 l (goes ∙ rw (lt-leb 8 k fits, e) (ap with_meaning (sym w.2))))
+        (rule_changes o v r x m c b (write i (Some u)) (Open (Update job)) h (denied rival) w.0 (goes ∙ rw (lt-leb 8 k fits, e) (ap with_meaning (sym w.2))))
 
     abbrev values_after : List V
     values_after = set m.pending.now (pending_place c b + k) u
 
     -- The job's bay has one more value, and no other bay is touched.
-    module _ (p : PendingItems) (is : pending_items p ≡ with_item k i (pending_items job.pending)) (n : b < length (class_in x c).bays) where
+    module _ (p : PendingItems) (is : pending_items p ≡ with_item k i (pending_items job.pending)) where
       abbrev new : Bay
       new = Open (Update (record { down = job.down; pending = p }))
 
@@ -122,7 +121,7 @@ module _ {O V R : Type 0} (o : OrderGhosts O) (v : ValueGhosts V) (r : RuleGhost
       own_bays =
           let with_bays : (ℕ → definition.Bay V) → Class V = λ f. record { floor = (class_in x c).floor; claims = with_write b i (claims_here o v r x m c b); bays = f; cells = (class_here o v r x m c b).cells } in
           ap with_bays (put_at (class_here o v r x m c b).bays (class_of S m.cells.now values_after c (with_bay_in (class_in x c) b new) (claims_here o v r x m c b)).bays b _
-          (ap (bay_of (bay_values values_after c b)) (get_or-set_same (class_in x c).bays b new Free n) ∙ own_bay)
+          (ap (bay_of (bay_values values_after c b)) (get_or-set_same (class_in x c).bays b new Free h.in_state) ∙ own_bay)
           (λ e a. ap (bay_of (bay_values values_after c e)) (get_or-set_other (class_in x c).bays b e new Free a) ∙ bay_stays (class_in x c) c e (values_kept m.pending.now c b h.in_bays k u fits c e (inr a))))
 
       other_class : (d : ℕ) → ¬ (d ≡ c) → (k' : ClassState) (j : Claims) → class_of S m.cells.now values_after d k' j ≡ class_of S m.cells.now m.pending.now d k' j
@@ -130,21 +129,13 @@ module _ {O V R : Type 0} (o : OrderGhosts O) (v : ValueGhosts V) (r : RuleGhost
           let with_bays : (ℕ → definition.Bay V) → Class V = λ f. record { floor = k'.floor; claims = j; bays = f; cells = (class_of S m.cells.now m.pending.now d k' j).cells } in
           ap with_bays (fun_ext (λ e. bay_stays k' d e (values_kept m.pending.now c b h.in_bays k u fits d e (inl a))))
 
-      pub is_written : S.writing (claims_here o v r x m c b) b i ≡ Yes → (rule : R) → r.meaning rule ≡ with_write b i (claims_here o v r x m c b)
+      pub is_written : S.writing (claims_here o v r x m c b) b i ≡ None → (rule : R) → r.meaning rule ≡ with_write b i (claims_here o v r x m c b)
           → Exit o v r x m (by c b (write i (Some u))) done (with_class_in x c (with_bay_in (class_in x c) b new)) (with_pending (with_rules m (set m.rules.now c rule)) values_after)
       is_written e rule w =
           let with_meaning : Claims → Outcome V = λ j. answer done (class_of S m.cells.now values_after c (with_bay_in (class_in x c) b new) j) in
           class_changes o v r x m c b (write i (Some u)) (Open (Update job)) h done (with_bay_in (class_in x c) b new) rule
-          (with_pending (with_rules m (set m.rules.now c rule)) values_after) l refl other_class
+          (with_pending (with_rules m (set m.rules.now c rule)) values_after) refl other_class
           (goes ∙ rw (lt-leb 8 k fits, e) (ap (answer done) (sym own_bays) ∙ ap with_meaning (sym w)))
-
--- The memory after a claim and one more pending value.
-pub claimed_and_pending : {V R : Type 0} (m m' m'' : Memory V R) (rules : List R) (at place : ℕ) (u : V)
-    → m' ≡ with_rules m rules → m'' ≡ with_pending m' (set m'.pending.now at u) → at ≡ place
-    → m'' ≡ with_pending (with_rules m rules) (set m.pending.now place u)
-claimed_and_pending {V} {R} m m' m'' rules at place u p q e =
-    q ∙ ap (λ (t : Memory V R). with_pending t (set t.pending.now at u)) p
-    ∙ ap (λ (k : ℕ). with_pending (with_rules m rules) (set m.pending.now k u)) e
 
 -- A value in one of a bay's places, and the rule of its class: nothing else has changed.
 pub one_place_changed : {V R : Type 0} (m : Memory V R) (c b k : ℕ) (u : V) (rule : R) → k < 8

@@ -7,6 +7,7 @@ pub mod Opened
 pub mod Storing
 pub mod Committing
 pub mod OwnPlaces
+pub mod Answered
 pub mod Sweeps
 pub mod SetUp
 pub mod Fill

@@ -1,12 +1,15 @@
 -- The job that a begin puts into a free bay.
-use Rattle.std.specs.Prelude.{ℕ, cond, [], ◌∷◌, None, ◌==◌}
+use Rattle.std.specs.Prelude.{ℕ, [], ◌∷◌, None}
 use Rattle.register_parts.specs.declared.bay.Job.{Job}
-use Rattle.register_parts.specs.declared.bay.Job.TheVariants.{Update, Long}
+use Rattle.register_parts.specs.declared.bay.Job.TheVariants as job
 use Rattle.register_parts.specs.declared.bay.PendingItems.{PendingItems}
+use Rattle.register_parts.specs.declared.job_kind.JobKind.{JobKind}
+use Rattle.register_parts.specs.declared.job_kind.JobKind.TheVariants.{Update, Long}
 
 abbrev pub nothing_pending : PendingItems
 nothing_pending = record { count = 0; items = 0 ∷ 0 ∷ 0 ∷ 0 ∷ 0 ∷ 0 ∷ 0 ∷ 0 ∷ [] }
 
--- A job of the kind that a number names, 0 an update job, 1 a long job; n is the declared number of its grade.
-abbrev pub opened : ℕ → ℕ → Job
-opened kind n = cond (kind == 0) (Update (record { down = None; pending = nothing_pending })) (Long n)
+-- A job of a kind; n is the declared number of its grade.
+abbrev pub opened : JobKind → ℕ → Job
+opened Update n = job.Update (record { down = None; pending = nothing_pending })
+opened Long n = job.Long n

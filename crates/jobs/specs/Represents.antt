@@ -5,6 +5,7 @@ use Rattle.cells.specs.Cells.{versions, item}
 use Rattle.cells.specs.declared.cell.Cell.{Cell}
 use Rattle.cells.specs.declared.value.Value.{Ghosts as ValueGhosts}
 use Rattle.orders.specs.declared.class_order.ClassOrder.{Ghosts as OrderGhosts}
+use Rattle.rules.specs.declared.access.Access.TheVariants.{Read, Write}
 use Rattle.rules.specs.Claims.{Claims, no_claims}
 use Rattle.rules.specs.declared.local_rule.LocalRule.{Ghosts as RuleGhosts}
 use Rattle.laws.specs.Setting.{Setting, sum_below, bay_count}
@@ -96,8 +97,8 @@ module _ {O V R : Type 0} (o : OrderGhosts O) (v : ValueGhosts V) (r : RuleGhost
     top = x.clock.top;
     items = λ c. slice_index x.counts.items c;
     start = v.starting;
-    reading = r.reading;
-    writing = r.writing;
+    reading = r.policy Read;
+    writing = r.policy Write;
     variant = x.variant;
   }
 

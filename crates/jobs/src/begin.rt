@@ -1,8 +1,8 @@
 // Beginning: a free bay is opened with a new job.
 ghost use Rattle.std.specs.Prelude.{◌≡◌};
 ghost use Rattle.laws.specs.Clock.{declared};
+ghost use Rattle.jobs.specs.Answered.{Answered};
 ghost use Rattle.jobs.specs.Faults.{done_reply};
-ghost use Rattle.jobs.specs.Represents.{defined, LeadsTo};
 ghost use Rattle.jobs.specs.Requests.{to_begin};
 ghost use Rattle.jobs.specs.Opened.{opened};
 
@@ -12,13 +12,8 @@ use cells::value::Value;
 use orders::class_order::ClassOrder;
 use register_parts::bay::{Bay, Job, PendingItems, UpdateJob};
 use register_parts::job_fault::JobFault;
+use register_parts::job_kind::JobKind;
 use rules::local_rule::LocalRule;
-
-// The kinds of jobs by their numbers: this one for an update job, which reads and writes.
-const UPDATE: u8 = 0;
-
-// And this one, the last, for a long job, which only reads.
-const LONG: u8 = 1;
 
 impl<O: ClassOrder> Register<O> {
     // Opens a free bay with a job of a kind.
@@ -29,13 +24,14 @@ impl<O: ClassOrder> Register<O> {
         bay: u8,
         kind: u8,
     ) -> Result<(), JobFault>
-        ensures reply { done_reply result ≡ (defined (O.ClassOrder) (V.Value) (R.LocalRule) self.old memory.now (to_begin class bay kind)).reply }
-        ensures state { LeadsTo (O.ClassOrder) (V.Value) (R.LocalRule) self.old memory.now (to_begin class bay kind) self.new memory.now }
+        ensures { Answered (O.ClassOrder) (V.Value) (R.LocalRule) self.old memory.now (to_begin class bay kind) (done_reply result) self.new memory.now }
     {
-        match self.door(memory, class, bay, kind <= LONG)? {
+        let id = self.door(memory, class, bay)?;
+        let kind = JobKind::try_from(kind)?;
+        match self.bay(id) {
             Bay::Free => {
-                let job = self.new_job(class, kind);
-                self.set_bay(class, bay, Bay::Open(job));
+                let job = self.new_job(id.class, kind);
+                self.set_bay(id, Bay::Open(job));
                 Ok(())
             }
             Bay::Closed | Bay::Open(_) => Err(JobFault::BayNotFree),
@@ -43,19 +39,18 @@ impl<O: ClassOrder> Register<O> {
     }
 
     // A long job reads at the stable version of its grade.
-    fn new_job(&self, class: u8, kind: u8) -> Job
+    fn new_job(&self, class: u8, kind: JobKind) -> Job
         ensures reply { result ≡ opened kind (declared self.now.clock.top (O.ClassOrder.grade self.now.order class) self.now.clock.ticks) }
     {
-        if kind == UPDATE {
-            Job::Update(UpdateJob {
+        match kind {
+            JobKind::Update => Job::Update(UpdateJob {
                 down: None,
                 pending: PendingItems {
                     count: 0,
                     items: [0; 8],
                 },
-            })
-        } else {
-            Job::Long(self.clock.declared(self.order.grade(class)))
+            }),
+            JobKind::Long => Job::Long(self.clock.declared(self.order.grade(class))),
         }
     }
 }

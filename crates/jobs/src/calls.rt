@@ -1,4 +1,5 @@
 // The calls of a register, by class and bay numbers. Each replies, and leaves, what the definition says, and bears the laws.
+// The laws are added here to the one clause of the private call that does the work.
 ghost use Rattle.std.specs.Prelude.{◌≡◌, nat_eq};
 ghost use Rattle.jobs.specs.CallLaws.{Lawfully};
 ghost use Rattle.jobs.specs.Faults.{done_reply, read_reply, tick_reply};
@@ -17,6 +18,7 @@ use rules::local_rule::LocalRule;
 
 impl<O: ClassOrder> Register<O> {
     // Opens a free bay with a job of a kind: 0 for an update job, a read-write transaction; 1 for a long job, a read-only transaction on a stable version.
+    // A number, as a frame has it: a number that names no kind has a reply of its own.
     pub fn begin<V: Value, R: LocalRule>(
         &mut self,
         memory: &Memory<'_, V, R>,

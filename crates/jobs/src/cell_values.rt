@@ -14,17 +14,13 @@ impl<V: Value, R> Memory<'_, V, R> {
     {
         match read_at(self.cells, place, number) {
             Ok(Some(version)) => version.value,
-            Ok(None) => V::start(),
-            Err(_) => V::start(),
+            Ok(None) | Err(_) => V::start(),
         }
     }
 
     pub(crate) fn newest_value(&self, place: usize) -> V
         ensures reply { result ≡ or_else (newest_value (item place (map versions self.now.cells.now))) V.Value.starting }
     {
-        match newest(self.cells, place) {
-            Ok(version) => version.value,
-            Err(_) => V::start(),
-        }
+        newest(self.cells, place).map_or_else(|_| V::start(), |version| version.value)
     }
 }

@@ -1,15 +1,14 @@
 // Committing: a job's pending values are stored under the number under which its class writes, if the job passes validation.
-ghost use Rattle.std.specs.Prelude.{◌≡◌, ◌+◌, ◌<◌, length, nat_eq};
+ghost use Rattle.std.specs.Prelude.{◌≡◌, ◌+◌};
 ghost use Rattle.laws.specs.Clock.{declared};
 ghost use Rattle.laws.specs.Actions.{below_floor};
+ghost use Rattle.jobs.specs.Answered.{Answered};
 ghost use Rattle.jobs.specs.Faults.{done_reply};
-ghost use Rattle.jobs.specs.Represents.{claims_in, defined, LeadsTo};
 ghost use Rattle.jobs.specs.Requests.{to_commit};
-ghost use Rattle.jobs.specs.Lent.{none, RuleBecomes, ChangedOnly};
-ghost use Rattle.jobs.specs.OwnPlaces.{cells_of, if_bay};
 ghost use Rattle.jobs.specs.Parts.{class_in};
 ghost use Rattle.jobs.specs.Committing.{validated, validated_claims};
 
+use crate::bay_id::BayId;
 use crate::first_cell::first_cell;
 use crate::memory::Memory;
 use crate::register::Register;
@@ -27,50 +26,48 @@ impl<O: ClassOrder> Register<O> {
         class: u8,
         bay: u8,
     ) -> Result<(), JobFault>
-        ensures reply { done_reply result ≡ (defined (O.ClassOrder) (V.Value) (R.LocalRule) self.old memory.old (to_commit class bay)).reply }
-        ensures state { LeadsTo (O.ClassOrder) (V.Value) (R.LocalRule) self.old memory.old (to_commit class bay) self.new memory.new }
-        ensures memory { ChangedOnly (if_bay (O.ClassOrder.classes self.old.order) class bay (cells_of self.old.counts.items class)) none (if_bay (O.ClassOrder.classes self.old.order) class bay (nat_eq class)) memory.old memory.new }
+        ensures { Answered (O.ClassOrder) (V.Value) (R.LocalRule) self.old memory.old (to_commit class bay) (done_reply result) self.new memory.new }
     {
-        let job = match self.door(memory, class, bay, true)? {
+        let id = self.door(memory, class, bay)?;
+        let job = match self.bay(id) {
             Bay::Free => return Err(JobFault::BayFree),
             Bay::Closed => {
-                self.set_bay(class, bay, Bay::Free);
+                self.set_bay(id, Bay::Free);
                 return Err(JobFault::BayClosed);
             }
             Bay::Open(job) => job,
         };
+        let rule = &mut memory.rules[id.class as usize];
         let Job::Update(job) = job else {
-            self.end_job(memory, class, bay, Bay::Free);
+            self.end_job(rule, id);
             return Ok(());
         };
-        if let Err(fault) = self.validate(memory, class, bay, job.down) {
-            self.end_job(memory, class, bay, Bay::Free);
+        if let Err(fault) = self.validate(rule, id, job.down) {
+            self.end_job(rule, id);
             return Err(fault);
         }
-        let items = self.counts.items[class as usize];
-        let first = first_cell(&self.counts, class);
-        let number = self.writing_number(class);
-        memory.store_pending(class, bay, job.pending, items, first, number);
-        self.commit_bay(class, bay, job.down);
+        let items = self.counts.items[id.class as usize];
+        let first = first_cell(&self.counts, id.class);
+        let number = self.writing_number(id.class);
+        memory.store_pending(id, job.pending, items, first, number);
+        self.commit_bay(id, job.down);
         Ok(())
     }
 
     // A job that was overtaken is refused; any other has to settle with the rule of its class.
-    fn validate<V: Value, R: LocalRule>(
+    fn validate<R: LocalRule>(
         &self,
-        memory: &mut Memory<'_, V, R>,
-        class: u8,
-        bay: u8,
+        rule: &mut R,
+        id: BayId,
         down: Option<u32>,
     ) -> Result<(), JobFault>
-        requires { (class < 16) × ((bay < 8) × (class < length memory.old.rules.now)) }
-        ensures reply { result ≡ validated (below_floor (class_in self.now class).floor down) ((claims_in (R.LocalRule) memory.old.rules.now class).stale bay) }
-        ensures memory { RuleBecomes (R.LocalRule) class (validated_claims (below_floor (class_in self.now class).floor down) bay (claims_in (R.LocalRule) memory.old.rules.now class)) memory.old memory.new }
+        ensures reply { result ≡ validated (below_floor (class_in self.now id.class).floor down) ((R.LocalRule.meaning rule.old).stale id.bay) }
+        ensures rule { R.LocalRule.meaning rule.new ≡ validated_claims (below_floor (class_in self.now id.class).floor down) id.bay (R.LocalRule.meaning rule.old) }
     {
-        if self.has_overtaken(class, down) {
+        if self.has_overtaken(id, down) {
             return Err(JobFault::Overtaken);
         }
-        memory.settle(class, bay)?;
+        rule.settle(id.bay)?;
         Ok(())
     }
 

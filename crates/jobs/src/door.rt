@@ -1,10 +1,12 @@
 // The door: what every call for a bay is asked first.
-ghost use Rattle.std.specs.Prelude.{◌≡◌};
+ghost use Rattle.std.specs.Prelude.{◌≡◌, length};
 ghost use Rattle.jobs.specs.Represents.{enough};
-ghost use Rattle.jobs.specs.Parts.{admitted, then_job};
+ghost use Rattle.jobs.specs.Parts.{class_in, bay_in, admitted, found, Names, job_in};
 
+use crate::bay_id::BayId;
 use crate::first_cell::first_cell;
 use crate::memory::Memory;
+use crate::pending_memory::PENDING_PLACES;
 use crate::register::Register;
 use cells::value::Value;
 use orders::class_order::ClassOrder;
@@ -19,40 +21,35 @@ impl<O: ClassOrder> Register<O> {
     {
         let classes = self.order.classes();
         first_cell(&self.counts, classes) <= memory.cells.len()
-            && classes as usize * 64 <= memory.pending.len()
-            && classes as usize <= memory.rules.len()
+            && usize::from(classes) * PENDING_PLACES <= memory.pending.len()
+            && usize::from(classes) <= memory.rules.len()
     }
 
-    // The bay that a call is for; `known` says whether there is what else the call names.
+    // The bay that a call is for, where there is one of these numbers.
     pub(crate) fn door<V: Value, R: LocalRule>(
         &self,
         memory: &Memory<'_, V, R>,
         class: u8,
         bay: u8,
-        known: bool,
-    ) -> Result<Bay, JobFault>
-        ensures reply { result ≡ admitted (O.ClassOrder) (V.Value) (R.LocalRule) self.now memory.now class bay known }
+    ) -> Result<BayId, JobFault>
+        ensures reply { found self.now result ≡ admitted (O.ClassOrder) (V.Value) (R.LocalRule) self.now memory.now class bay }
+        ensures names { Names class bay result }
     {
         if !self.has_enough(memory) {
             return Err(JobFault::TooLittleMemory);
         }
-        if class >= self.order.classes() || bay >= BAYS || !known {
+        if class >= self.order.classes() || bay >= BAYS {
             return Err(JobFault::Unknown);
         }
-        Ok(self.bay(class, bay))
+        Ok(BayId { class, bay })
     }
 
-    // The running job that a call is for.
-    pub(crate) fn running_job<V: Value, R: LocalRule>(
-        &self,
-        memory: &Memory<'_, V, R>,
-        class: u8,
-        bay: u8,
-        known: bool,
-    ) -> Result<Job, JobFault>
-        ensures reply { result ≡ then_job (admitted (O.ClassOrder) (V.Value) (R.LocalRule) self.now memory.now class bay known) }
+    // The job that runs in a bay.
+    pub(crate) fn running_job(&self, id: BayId) -> Result<Job, JobFault>
+        ensures reply { result ≡ job_in (bay_in self.now id.class id.bay) }
+        ensures eight { length (class_in self.now id.class).bays ≡ 8 }
     {
-        match self.door(memory, class, bay, known)? {
+        match self.bay(id) {
             Bay::Free => Err(JobFault::BayFree),
             Bay::Closed => Err(JobFault::BayClosed),
             Bay::Open(job) => Ok(job),

@@ -3,17 +3,16 @@ ghost use Rattle.std.specs.Prelude.{◌≡◌};
 ghost use Rattle.jobs.specs.Represents.{enough};
 ghost use Rattle.jobs.specs.Fill.{fill_reply, FilledWhen, StandsFilled};
 
-use crate::fill_memory::{fill_cells, fill_pending, fill_rules, has_variant};
+use crate::fill_memory::{fill_first, fresh_rule, has_variant};
 use crate::first_cell::first_cell;
 use crate::memory::Memory;
+use crate::pending_memory::PENDING_PLACES;
 use crate::register::Register;
+use cells::cell::Cell;
 use cells::value::Value;
 use orders::class_order::ClassOrder;
 use register_parts::setup_fault::SetUpFault;
 use rules::local_rule::LocalRule;
-
-// So many places for pending values each class needs.
-const PENDING_PLACES: usize = 64;
 
 impl<O: ClassOrder> Register<O> {
     // Fills the part of the memory that the register needs as a fresh register has it; the rest stays.
@@ -32,9 +31,17 @@ impl<O: ClassOrder> Register<O> {
             return Err(SetUpFault::TooLittleMemory);
         }
         let classes = self.order.classes();
-        fill_cells(memory.cells, first_cell(&self.counts, classes));
-        fill_pending(memory.pending, classes as usize * PENDING_PLACES);
-        fill_rules(memory.rules, classes as usize, self.variant);
+        fill_first(memory.cells, first_cell(&self.counts, classes), || {
+            Cell::starting()
+        });
+        fill_first(
+            memory.pending,
+            usize::from(classes) * PENDING_PLACES,
+            || V::start(),
+        );
+        fill_first(memory.rules, usize::from(classes), || {
+            fresh_rule(self.variant)
+        });
         Ok(())
     }
 }

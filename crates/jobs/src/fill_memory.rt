@@ -1,44 +1,29 @@
 // Filling lent memory as a fresh register has it.
 ghost use Rattle.std.specs.Prelude.{◌≡◌, ◌<◌, ◌≤◌, length, nat_lt};
-ghost use Rattle.jobs.specs.SetUp.{Overwritten, FreshCell, FreshRule};
+ghost use Rattle.jobs.specs.SetUp.{Overwritten, FreshRule};
 
-use cells::cell::Cell;
-use cells::value::Value;
 use rules::local_rule::LocalRule;
 
-// One fresh cell an item.
-pub(crate) fn fill_cells<V: Value>(cells: &mut [Cell<V>], items: usize)
-    requires { items ≤ length cells.old }
-    ensures { Overwritten (FreshCell (V.Value)) items cells.old cells.new }
+// The first places hold what `fresh` makes from now on.
+pub(crate) fn fill_first<T: Drop, F: Fn() -> T>(places: &mut [T], count: usize, fresh: F)
+    requires room { count ≤ length places.old }
+    requires callable { F.IsAlwaysCallable fresh }
+    ensures { Overwritten (λ value. F.post fresh value) count places.old places.new }
 {
-    for k in 0..items {
-        cells[k] = Cell::starting();
-    }
+    places[..count].fill_with(fresh);
 }
 
-// The starting value in each place for a pending value.
-pub(crate) fn fill_pending<V: Value>(pending: &mut [V], places: usize)
-    requires { places ≤ length pending.old }
-    ensures { Overwritten (λ v. v ≡ V.Value.starting) places pending.old pending.new }
-{
-    for k in 0..places {
-        pending[k] = V::start();
-    }
-}
-
-// Whether the local rules have this variant.
+// Whether the local rules have this variant. Each class gets a rule of its own, so the one made for the question is dropped.
 pub(crate) fn has_variant<R: LocalRule + Drop>(variant: u8) -> bool
     ensures { result ≡ nat_lt variant R.LocalRule.variants }
 {
     R::fresh(variant).is_some()
 }
 
-// One fresh rule for each class.
-pub(crate) fn fill_rules<R: LocalRule + Drop>(rules: &mut [R], classes: usize, variant: u8)
-    requires { (classes ≤ length rules.old) × (variant < R.LocalRule.variants) }
-    ensures { Overwritten (FreshRule (R.LocalRule) variant) classes rules.old rules.new }
+// A rule of a variant that there is.
+pub(crate) fn fresh_rule<R: LocalRule + Drop>(variant: u8) -> R
+    requires { variant < R.LocalRule.variants }
+    ensures { FreshRule (R.LocalRule) variant result }
 {
-    for k in 0..classes {
-        rules[k] = R::fresh(variant).unwrap();
-    }
+    R::fresh(variant).unwrap()
 }

@@ -1,10 +1,7 @@
 // Giving up: the job of a bay is aborted.
-ghost use Rattle.std.specs.Prelude.{◌≡◌, nat_eq};
+ghost use Rattle.jobs.specs.Answered.{Answered};
 ghost use Rattle.jobs.specs.Faults.{done_reply};
-ghost use Rattle.jobs.specs.Represents.{defined, LeadsTo};
 ghost use Rattle.jobs.specs.Requests.{to_give_up};
-ghost use Rattle.jobs.specs.Lent.{none, ChangedOnly};
-ghost use Rattle.jobs.specs.OwnPlaces.{if_bay};
 
 use crate::memory::Memory;
 use crate::register::Register;
@@ -22,18 +19,17 @@ impl<O: ClassOrder> Register<O> {
         class: u8,
         bay: u8,
     ) -> Result<(), JobFault>
-        ensures reply { done_reply result ≡ (defined (O.ClassOrder) (V.Value) (R.LocalRule) self.old memory.old (to_give_up class bay)).reply }
-        ensures state { LeadsTo (O.ClassOrder) (V.Value) (R.LocalRule) self.old memory.old (to_give_up class bay) self.new memory.new }
-        ensures memory { ChangedOnly none none (if_bay (O.ClassOrder.classes self.old.order) class bay (nat_eq class)) memory.old memory.new }
+        ensures { Answered (O.ClassOrder) (V.Value) (R.LocalRule) self.old memory.old (to_give_up class bay) (done_reply result) self.new memory.new }
     {
-        match self.door(memory, class, bay, true)? {
+        let id = self.door(memory, class, bay)?;
+        match self.bay(id) {
             Bay::Free => Err(JobFault::BayFree),
             Bay::Closed => {
-                self.set_bay(class, bay, Bay::Free);
+                self.set_bay(id, Bay::Free);
                 Ok(())
             }
             Bay::Open(_) => {
-                self.end_job(memory, class, bay, Bay::Free);
+                self.end_job(&mut memory.rules[id.class as usize], id);
                 Ok(())
             }
         }

@@ -1,16 +1,12 @@
 //! The register: its calls over memory that the caller lends, proved against the definition and its laws.
 #![tactic(auto)]
 
-pub mod bay;
 mod bay_access;
+mod bay_id;
 mod begin;
 mod calls;
 mod cell_values;
-pub mod class_setup;
-pub mod class_state;
-pub mod clock;
 mod commit;
-pub mod declaration;
 mod door;
 mod end_job;
 mod fill;
@@ -18,8 +14,6 @@ mod fill_memory;
 mod first_cell;
 mod floor;
 mod give_up;
-pub mod item_counts;
-pub mod job_fault;
 pub mod memory;
 mod pending_items;
 mod pending_memory;
@@ -28,8 +22,11 @@ mod read;
 pub mod register;
 mod rule_access;
 mod set_up;
-pub mod setup_fault;
 mod store_pending;
 mod sweep;
 mod tick;
 mod write;
+
+pub use register_parts::{
+    bay, class_setup, class_state, clock, declaration, item_counts, job_fault, setup_fault,
+};

@@ -1,4 +1,4 @@
-// The memory that a caller lends to a register for the time of a call.
+// The memory that a caller lends to a register for the time of a call, so that it is no part of the register and comes beside it.
 use cells::cell::Cell;
 
 #[derive(Drop)]

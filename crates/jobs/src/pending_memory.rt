@@ -3,13 +3,17 @@ ghost use Rattle.std.specs.Prelude.{◌≡◌, ◌+◌, ◌<◌, length, slice_i
 ghost use Rattle.jobs.specs.Represents.{pending_place};
 ghost use Rattle.jobs.specs.Lent.{with_pending};
 
+use crate::bay_id::BayId;
 use crate::memory::Memory;
 
-// Where a place of a bay is among those of all bays.
-pub(crate) fn pending_index(class: u8, bay: u8, place: u8) -> usize
-    ensures { result ≡ pending_place class bay + place }
+// So many places for pending values each class needs.
+pub(crate) const PENDING_PLACES: usize = 64;
+
+// Where a place of a bay is among those of all bays. (Without a heap, callers lend one run of values, so a place is an index.)
+pub(crate) fn pending_index(id: BayId, place: u8) -> usize
+    ensures { result ≡ pending_place id.class id.bay + place }
 {
-    (class as usize * 8 + bay as usize) * 8 + place as usize
+    (usize::from(id.class) * 8 + usize::from(id.bay)) * 8 + usize::from(place)
 }
 
 fn value_at<V: Copy>(values: &[V], index: usize) -> V

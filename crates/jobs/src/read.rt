@@ -1,12 +1,10 @@
 // Reading: an item of a class that the job's own class dominates.
-ghost use Rattle.std.specs.Prelude.{◌≡◌, ◌-◌, nat_eq};
+ghost use Rattle.std.specs.Prelude.{◌≡◌, ◌-◌};
 ghost use Rattle.laws.specs.State.{or_else};
 ghost use Rattle.laws.specs.Clock.{declared};
+ghost use Rattle.jobs.specs.Answered.{Answered};
 ghost use Rattle.jobs.specs.Faults.{read_reply};
-ghost use Rattle.jobs.specs.Represents.{defined, LeadsTo};
 ghost use Rattle.jobs.specs.Requests.{to_read};
-ghost use Rattle.jobs.specs.Lent.{none, ChangedOnly};
-ghost use Rattle.jobs.specs.OwnPlaces.{if_bay};
 
 use crate::first_cell::first_cell;
 use crate::memory::Memory;
@@ -15,6 +13,7 @@ use cells::value::Value;
 use orders::class_order::ClassOrder;
 use register_parts::bay::{Bay, Job, UpdateJob};
 use register_parts::job_fault::JobFault;
+use rules::access::Access;
 use rules::local_rule::LocalRule;
 
 impl<O: ClassOrder> Register<O> {
@@ -27,12 +26,14 @@ impl<O: ClassOrder> Register<O> {
         other: u8,
         item: u8,
     ) -> Result<V, JobFault>
-        ensures reply { read_reply result ≡ (defined (O.ClassOrder) (V.Value) (R.LocalRule) self.old memory.old (to_read class bay other item)).reply }
-        ensures state { LeadsTo (O.ClassOrder) (V.Value) (R.LocalRule) self.old memory.old (to_read class bay other item) self.new memory.new }
-        ensures memory { ChangedOnly none none (if_bay (O.ClassOrder.classes self.old.order) class bay (nat_eq class)) memory.old memory.new }
+        ensures { Answered (O.ClassOrder) (V.Value) (R.LocalRule) self.old memory.old (to_read class bay other item) (read_reply result) self.new memory.new }
     {
-        let job = self.running_job(memory, class, bay, other < self.order.classes())?;
-        if !self.order.dominates(class, other) {
+        let id = self.door(memory, class, bay)?;
+        if other >= self.order.classes() {
+            return Err(JobFault::Unknown);
+        }
+        let job = self.running_job(id)?;
+        if !self.order.dominates(id.class, other) {
             return Err(JobFault::NotDominated);
         }
         if item >= self.counts.items[other as usize] {
@@ -42,19 +43,19 @@ impl<O: ClassOrder> Register<O> {
         match job {
             Job::Long(number) => Ok(memory.value_at(place, number)),
             Job::Update(job) => {
-                if class != other {
-                    let down = self.down_number(class, job.down);
+                if id.class != other {
+                    let down = self.down_number(id.class, job.down);
                     let read_below = UpdateJob {
                         down: Some(down),
-                        pending: job.pending,
+                        ..job
                     };
-                    self.set_bay(class, bay, Bay::Open(Job::Update(read_below)));
+                    self.set_bay(id, Bay::Open(Job::Update(read_below)));
                     return Ok(memory.value_at(place, down));
                 }
-                if let Some(value) = memory.pending_value(class, bay, job.pending, item) {
+                if let Some(value) = memory.pending_value(id, job.pending, item) {
                     return Ok(value);
                 }
-                memory.claim_read(class, bay, item)?;
+                memory.claim(id, Access::Read, item)?;
                 Ok(memory.newest_value(place))
             }
         }
@@ -64,11 +65,9 @@ impl<O: ClassOrder> Register<O> {
     fn down_number(&self, class: u8, down: Option<u32>) -> u32
         ensures reply { result ≡ or_else down (declared self.now.clock.top (O.ClassOrder.grade self.now.order class - 1) self.now.clock.ticks) }
     {
-        match down {
-            Some(number) => number,
-            None => self
-                .clock
-                .declared(self.order.grade(class).saturating_sub(1)),
-        }
+        down.unwrap_or_else(|| {
+            self.clock
+                .declared(self.order.grade(class).saturating_sub(1))
+        })
     }
 }

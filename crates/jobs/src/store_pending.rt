@@ -1,9 +1,10 @@
 // A commit stores the pending values of a job into the cells of its class.
-ghost use Rattle.std.specs.Prelude.{◌+◌, ◌<◌, ◌≤◌, map, length};
+ghost use Rattle.std.specs.Prelude.{◌+◌, ◌≤◌, map, length};
 ghost use Rattle.cells.specs.Cells.{versions};
 ghost use Rattle.jobs.specs.Represents.{pending_of, bay_values, pending_place};
 ghost use Rattle.jobs.specs.Storing.{all_stored, CellsBecome};
 
+use crate::bay_id::BayId;
 use crate::memory::Memory;
 use crate::pending_memory::pending_index;
 use cells::version_store::store;
@@ -14,20 +15,21 @@ impl<V: Copy, R> Memory<'_, V, R> {
     // The last goes first: of several values of one item the first counts.
     pub(crate) fn store_pending(
         &mut self,
-        class: u8,
-        bay: u8,
+        id: BayId,
         pending: PendingItems,
         items: u8,
         first: usize,
         number: u32,
     )
-        requires { (first + items ≤ length self.old.cells.now) × ((pending_place class bay + 8 ≤ length self.old.pending.now) × (bay < 8)) }
-        ensures memory { CellsBecome (all_stored items first number (pending_of pending (bay_values self.old.pending.now class bay)) (map versions self.old.cells.now)) self.old self.new }
+        requires { (first + items ≤ length self.old.cells.now) × (pending_place id.class id.bay + 8 ≤ length self.old.pending.now) }
+        ensures memory { CellsBecome (all_stored items first number (pending_of pending (bay_values self.old.pending.now id.class id.bay)) (map versions self.old.cells.now)) self.old self.new }
     {
+        // By place. Over `pending.items().iter().enumerate().rev()` the proof did not close: "it is not proved that what `pending_at` requires
+        // holds at this call (`pending_at-value-requires`); `search` gave up at one of its limits".
         for k in (0..pending.len()).rev() {
             let item = pending.items[k as usize];
             if item < items {
-                let value = self.pending_at(pending_index(class, bay, k));
+                let value = self.pending_at(pending_index(id, k));
                 let _ = store(self.cells, first + item as usize, number, value);
             }
         }

@@ -1,9 +1,7 @@
 // The tick: the end of a version period at one grade.
-ghost use Rattle.std.specs.Prelude.{◌≡◌};
-ghost use Rattle.jobs.specs.Represents.{defined, LeadsTo};
-ghost use Rattle.jobs.specs.Lent.{none, below, ChangedOnly};
-ghost use Rattle.jobs.specs.Requests.{to_tick};
+ghost use Rattle.jobs.specs.Answered.{Answered};
 ghost use Rattle.jobs.specs.Faults.{tick_reply};
+ghost use Rattle.jobs.specs.Requests.{to_tick};
 
 use crate::memory::Memory;
 use crate::register::Register;
@@ -19,9 +17,7 @@ impl<O: ClassOrder> Register<O> {
         &mut self,
         memory: &mut Memory<'_, V, R>,
     ) -> Result<Declaration, JobFault>
-        ensures reply { tick_reply result ≡ (defined (O.ClassOrder) (V.Value) (R.LocalRule) self.old memory.old to_tick).reply }
-        ensures state { LeadsTo (O.ClassOrder) (V.Value) (R.LocalRule) self.old memory.old to_tick self.new memory.new }
-        ensures memory { ChangedOnly none none (below (O.ClassOrder.classes self.old.order)) memory.old memory.new }
+        ensures { Answered (O.ClassOrder) (V.Value) (R.LocalRule) self.old memory.old (to_tick) (tick_reply result) self.new memory.new }
     {
         if !self.has_enough(memory) {
             return Err(JobFault::TooLittleMemory);

@@ -1,10 +1,7 @@
 // Writing: a value is pending in the job's bay until the job commits.
-ghost use Rattle.std.specs.Prelude.{◌≡◌, nat_eq};
+ghost use Rattle.jobs.specs.Answered.{Answered};
 ghost use Rattle.jobs.specs.Faults.{done_reply};
-ghost use Rattle.jobs.specs.Represents.{defined, LeadsTo};
 ghost use Rattle.jobs.specs.Requests.{to_write};
-ghost use Rattle.jobs.specs.Lent.{none, ChangedOnly};
-ghost use Rattle.jobs.specs.OwnPlaces.{places_of, if_bay};
 
 use crate::memory::Memory;
 use crate::pending_items::put_item;
@@ -14,6 +11,7 @@ use cells::value::Value;
 use orders::class_order::ClassOrder;
 use register_parts::bay::{Bay, Job};
 use register_parts::job_fault::JobFault;
+use rules::access::Access;
 use rules::local_rule::LocalRule;
 
 impl<O: ClassOrder> Register<O> {
@@ -26,27 +24,21 @@ impl<O: ClassOrder> Register<O> {
         item: u8,
         value: Option<V>,
     ) -> Result<(), JobFault>
-        ensures reply { done_reply result ≡ (defined (O.ClassOrder) (V.Value) (R.LocalRule) self.old memory.old (to_write class bay item value)).reply }
-        ensures state { LeadsTo (O.ClassOrder) (V.Value) (R.LocalRule) self.old memory.old (to_write class bay item value) self.new memory.new }
-        ensures memory { ChangedOnly none (if_bay (O.ClassOrder.classes self.old.order) class bay (places_of class bay)) (if_bay (O.ClassOrder.classes self.old.order) class bay (nat_eq class)) memory.old memory.new }
+        ensures { Answered (O.ClassOrder) (V.Value) (R.LocalRule) self.old memory.old (to_write class bay item value) (done_reply result) self.new memory.new }
     {
-        let job = self.running_job(memory, class, bay, true)?;
-        let Job::Update(mut job) = job else {
+        let id = self.door(memory, class, bay)?;
+        let Job::Update(mut job) = self.running_job(id)? else {
             return Err(JobFault::OnlyReads);
         };
-        if item >= self.counts.items[class as usize] {
+        if item >= self.counts.items[id.class as usize] {
             return Err(JobFault::NoSuchItem);
         }
-        let Some(value) = value else {
-            return Err(JobFault::NoValue);
-        };
-        let Some(place) = job.pending.room_for(item) else {
-            return Err(JobFault::TooManyPending);
-        };
-        memory.claim_write(class, bay, item)?;
-        memory.set_pending(pending_index(class, bay, place), value);
+        let value = value.ok_or(JobFault::NoValue)?;
+        let place = job.pending.room_for(item).ok_or(JobFault::TooManyPending)?;
+        memory.claim(id, Access::Write, item)?;
+        memory.set_pending(pending_index(id, place), value);
         put_item(&mut job.pending, place, item);
-        self.set_bay(class, bay, Bay::Open(Job::Update(job)));
+        self.set_bay(id, Bay::Open(Job::Update(job)));
         Ok(())
     }
 }

@@ -1,8 +1,6 @@
 -- The courses that an action can take: a proof about a step goes by these cases and not by the tests in the definition.
 use Rattle.std.proofs.Common.{◌≡◌, ℕ, ◌<◌, Bool, true, false, not, eqb, ltb, List, Some, None, Option, refl, arith}
 use Rattle.std.proofs.lemmas.Bool.{ltb-true, eqb-true, eqb-false, not-false, cond_both}
-use Rattle.rules.specs.declared.answer.Answer.{Answer}
-use Rattle.rules.specs.declared.answer.Answer.TheVariants.{Yes, No}
 use Rattle.laws.specs.Setting.{Setting, dominates}
 use Rattle.laws.specs.State.{Cell, Pending, find, Kind, Job, Bay, Class, with_bay, ended, update, long, updating, reading, free, closed, running}
 use Rattle.laws.specs.Calls.{Action, bay_not_free, bay_free, bay_closed, not_dominated, no_such_item, only_reads, no_value, too_many_pending, overtaken, stale_job, begin, read, write, commit, give_up, done, got, denied}
@@ -47,9 +45,9 @@ module _ {V : Type 0} (S : Setting V) (t : ℕ) (cells_of : ℕ → ℕ → Cell
   does_own down p i e h (Some v) f = read_pending down p i v e f refl refl
   does_own down p i e h None f = go (S.reading k.claims b i)
     where
-      go : (x : Answer) → Course (read c i) (claimed x (reads_newest S t cells_of c k b i) k)
-      go Yes = read_newest down p i e f h refl refl
-      go (No b') = is_denied b' refl
+      go : (x : Option ℕ) → Course (read c i) (claimed x (reads_newest S t cells_of c k b i) k)
+      go None = read_newest down p i e f h refl refl
+      go (Some b') = is_denied b' refl
 
   does_read_by : (j : Job V) (d i : ℕ) → k.bays b ≡ running j → dominates S c d ≡ true → i < S.items d → Course (read d i) (reads_by S t cells_of c k b j d i)
   does_read_by (reading r) d i e h l = read_long r d i e h refl refl
@@ -74,9 +72,9 @@ module _ {V : Type 0} (S : Setting V) (t : ℕ) (cells_of : ℕ → ℕ → Cell
       cond_both (no_room i p) _ _ (Course (write i (Some v))) (λ f. is_refused too_many_pending (λ z. absurd (omega arith)) refl)
       (λ f. go (S.writing k.claims b i))
     where
-      go : (x : Answer) → Course (write i (Some v)) (claimed x (writes_pending S t cells_of c k b down p i v) k)
-      go Yes = wrote_item down p i v e h refl refl
-      go (No b') = is_denied b' refl
+      go : (x : Option ℕ) → Course (write i (Some v)) (claimed x (writes_pending S t cells_of c k b down p i v) k)
+      go None = wrote_item down p i v e h refl refl
+      go (Some b') = is_denied b' refl
 
   does_write_by : (j : Job V) (i : ℕ) (v : Option V) → k.bays b ≡ running j → Course (write i v) (writes_by S t cells_of c k b j i v)
   does_write_by (reading r) i v e = is_refused only_reads (λ z. absurd (omega arith)) refl

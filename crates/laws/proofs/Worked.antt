@@ -1,23 +1,22 @@
 -- The worked cases, by computation.
-use Rattle.std.proofs.Common.{◌≡◌, ℕ, zero, suc, ◌≤◌, refl, arith}
+use Rattle.std.proofs.Common.{◌≡◌, ℕ, zero, suc, ◌≤◌, Some, None, Option, refl, arith}
 use lib.Count.{ones}
 use Rattle.std.proofs.lemmas.Bool.{leb-true, le-leb}
-use Rattle.rules.specs.declared.answer.Answer.TheVariants.{Yes, No}
 use Rattle.rules.specs.declared.access.Access.{Access}
 use Rattle.rules.specs.declared.access.Access.TheVariants.{Read, Write}
 use Rattle.rules.specs.Claims.{Policy}
-use Rattle.rules.specs.Policies.{lock, always_yes, lowest_below}
+use Rattle.rules.specs.Policies.{lock, nothing_in_the_way, lowest_below}
 use Rattle.rules.specs.Rivals.{NamesARival}
 use Rattle.rules.specs.Refusals.{lock_names_a_rival}
 use Rattle.rules.proofs.Worked.{stale_reader}
 use Rattle.laws.specs.Setting.{sum_below, Lawful}
 use Rattle.laws.specs.Worked.{Labels, Versions, chain, Places, Ticks, items_of_two, Run, Worked}
 
-yes_not_no : {A : Type 0} (b : ℕ) → Yes ≡ No b → A
-yes_not_no b e = let z : ◌≡◌ {A = ℕ} 0 1 = cc in absurd (omega arith)
+none_not_some : {A : Type 0} (b : ℕ) → ◌≡◌ {A = Option ℕ} None (Some b) → A
+none_not_some b e = let z : ◌≡◌ {A = ℕ} 0 1 = cc in absurd (omega arith)
 
-always_yes_fair : NamesARival always_yes
-always_yes_fair k b i rival e = yes_not_no rival e
+nothing_in_the_way_fair : NamesARival nothing_in_the_way
+nothing_in_the_way_fair k b i rival e = none_not_some rival e
 
 chain_lawful : (answers : Access → Policy) (top : ℕ) (items : ℕ → ℕ) → ((access : Access) → NamesARival (answers access))
     → top ≤ 15 → ((c : ℕ) → items c ≤ 2) → sum_below (suc top) items ≤ 256 → Lawful (chain answers (suc top) top items)
@@ -64,7 +63,7 @@ pub run : Run
 unfolding lowest_below
 run = record {
   lawful = chain_lawful lock 1 items_of_two lock_names_a_rival (omega arith) two_small (omega arith);
-  lawful_three = chain_lawful (λ access. always_yes) 2 (λ c. 1) (λ access. always_yes_fair) (omega arith) (λ c. omega arith) (omega arith);
+  lawful_three = chain_lawful (λ access. nothing_in_the_way) 2 (λ c. 1) (λ access. nothing_in_the_way_fair) (omega arith) (λ c. omega arith) (omega arith);
   replies = (refl, (refl, (refl, (refl, (refl, (refl, (refl, (refl, (refl, (refl, (refl, (refl, (refl, tt)))))))))))));
   places = refl;
   operations = refl;

@@ -2,8 +2,6 @@
 use Rattle.std.specs.Prelude.{ℕ, Bool, true, false, cond, not, ◌&&◌, List, [], length, is_some, Some, None, Option, ◌==◌, nat_le, nat_lt}
 use Rattle.cells.specs.Versions.{stored}
 use Rattle.rules.specs.Claims.{Claims, with_read, with_write, settled}
-use Rattle.rules.specs.declared.answer.Answer.{Answer}
-use Rattle.rules.specs.declared.answer.Answer.TheVariants.{Yes, No}
 use Rattle.laws.specs.Setting.{Setting, dominates}
 use Rattle.laws.specs.State.{put, or_else, Cell, newest_value, value_at, Pending, find, pend, Kind, Job, Bay, Class, with_bay, with_claims, ended, update, long, updating, reading, free, closed, running}
 use Rattle.laws.specs.Calls.{Action, Reply, bay_not_free, bay_free, bay_closed, not_dominated, no_such_item, only_reads, no_value, too_many_pending, overtaken, stale_job, begin, read, write, commit, give_up, done, got, refused, denied}
@@ -20,10 +18,10 @@ module _ {V : Type 0} where
   abbrev pub refuse : ℕ → Class V → Outcome V
   refuse n k = answer (refused n) k
 
-  -- What comes of a claim: the outcome on yes; on no the bay is named and class k stays as it is.
-  abbrev pub claimed : Answer → Outcome V → Class V → Outcome V
-  claimed Yes o k = o
-  claimed (No b) o k = answer (denied b) k
+  -- What comes of a claim: the outcome where no bay stands in the way; otherwise that bay is named and class k stays as it is.
+  abbrev pub claimed : Option ℕ → Outcome V → Class V → Outcome V
+  claimed None o k = o
+  claimed (Some b) o k = answer (denied b) k
 
   -- What a commit under number w leaves of a cell whose item has this pending value, if any.
   abbrev pub stored_pending : Option V → ℕ → Cell V → Cell V

@@ -1,6 +1,6 @@
 -- Three shortcuts that a register might take, and that break the law of one copy: for each a short run in which it fails.
 use Rattle.std.specs.Prelude.{ℕ, ◌+◌, true, cond, List, [], ◌∷◌, Some, None, ◌==◌}
-use Rattle.rules.specs.Policies.{always_yes}
+use Rattle.rules.specs.Policies.{nothing_in_the_way}
 use Rattle.laws.specs.Setting.{Setting}
 use Rattle.laws.specs.State.{Cell, updating, reading, Bay, free, closed, running, Class, State, with_bay, fresh_state}
 use Rattle.laws.specs.Calls.{Action, begin, read, write, commit, give_up, Request, by, tick}
@@ -72,7 +72,7 @@ module _ {V : Type 0} (S : Setting V) where
 
 -- Two classes, 1 above 0, with two items each; every claim is answered yes.
 abbrev pub two_classes : Setting ℕ
-two_classes = chain (λ access. always_yes) 2 1 (λ c. 2)
+two_classes = chain (λ access. nothing_in_the_way) 2 1 (λ c. 2)
 
 abbrev pub update_kind : ℕ
 update_kind = 0

@@ -6,7 +6,7 @@ use Rattle.orders.specs.LabelledOrders.{make_label}
 use Rattle.cells.specs.Versions.{version, stored}
 use Rattle.cells.specs.declared.version.Version.{Version}
 use Rattle.rules.specs.Claims.{Policy}
-use Rattle.rules.specs.Policies.{lock, always_yes}
+use Rattle.rules.specs.Policies.{lock, nothing_in_the_way}
 use Rattle.rules.specs.declared.access.Access.{Access}
 use Rattle.rules.specs.declared.access.Access.TheVariants.{Read, Write}
 use Rattle.rules.specs.Worked.{StaleReader}
@@ -53,7 +53,7 @@ chain answers classes top items = record {
 }
 
 abbrev pub three : Setting ℕ
-three = chain (λ access. always_yes) 3 2 (λ c. 1)
+three = chain (λ access. nothing_in_the_way) 3 2 (λ c. 1)
 
 -- Places --------------------------------------------------------------------------------------------------------
 

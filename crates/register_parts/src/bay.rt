@@ -24,6 +24,7 @@ pub struct UpdateJob {
 }
 
 // The items that have a pending value, the first `count` of `items`. Their values lie in lent memory, in the same order.
+// No `ArrayVec`: it is not `Copy`, which the table of bays relies on.
 #[derive(Clone, Copy)]
 pub struct PendingItems {
     pub count: u8,

@@ -9,9 +9,6 @@ impl ClassState {
     pub fn has_overtaken(&self, down: Option<u32>) -> bool
         ensures reply { result ≡ below_floor self.now.floor down }
     {
-        match down {
-            Some(number) => number < self.floor,
-            None => false,
-        }
+        down.is_some_and(|number| number < self.floor)
     }
 }

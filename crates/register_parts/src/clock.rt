@@ -8,6 +8,7 @@ pub struct Clock {
     pub top: u8,
     pub ticks: u32,
     // The declared number of each grade from 0 up: how many ticks were at that grade.
+    // No length is asked: a grade past `top` has declared 0.
     pub numbers: [u32; 24],
     ghost low: { top ≤ 23 },
     ghost within: { ticks ≤ last_tick },

@@ -7,9 +7,6 @@ use crate::clock::Clock;
 use crate::declaration::Declaration;
 use crate::job_fault::JobFault;
 
-// No grade is greater.
-const MAX_GRADE: u8 = 23;
-
 // The clock stops after so many ticks.
 const LAST_TICK: u32 = 1_000_000;
 
@@ -18,17 +15,14 @@ impl Clock {
     pub fn declared(&self, grade: u8) -> u32
         ensures reply { result ≡ declared_number self.now.top grade self.now.ticks }
     {
-        if grade > MAX_GRADE {
-            return 0;
-        }
-        self.numbers[grade as usize]
+        self.numbers.get(usize::from(grade)).copied().unwrap_or(0)
     }
 
     // What the next tick declares: the grades take turns, from 0 up to the greatest.
     pub fn next(&self) -> Declaration
         ensures reply { result ≡ next_declaration self.now }
     {
-        let grades = self.top as u32 + 1;
+        let grades = u32::from(self.top) + 1;
         Declaration {
             grade: (self.ticks % grades) as u8,
             number: self.ticks / grades + 1,
@@ -45,7 +39,7 @@ impl Clock {
             return Err(JobFault::ClockAtEnd);
         }
         let next = self.next();
-        self.numbers[next.grade as usize] = next.number;
+        self.numbers[usize::from(next.grade)] = next.number;
         self.ticks += 1;
         Ok(next)
     }

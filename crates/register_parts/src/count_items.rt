@@ -22,12 +22,13 @@ impl ItemCounts {
         }
         let mut items = [0; 16];
         let mut sum: usize = 0;
+        // One `for` over the records, as a rule of the project has it.
         for (class, record) in records.iter().enumerate() {
             if record.items > MOST_ITEMS {
                 return Err(SetUpFault::TooManyItems);
             }
             items[class] = record.items;
-            sum += record.items as usize;
+            sum += usize::from(record.items);
         }
         if sum > MOST_ITEMS_IN_ALL {
             return Err(SetUpFault::TooManyItemsInAll);

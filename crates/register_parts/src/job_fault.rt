@@ -40,7 +40,7 @@ impl From<RuleFault> for JobFault {
 }
 
 impl JobFault {
-    // The number under which callers report the fault.
+    // The number under which callers report the fault. A method, since the number leaves out the bay, so a `From` would lose it.
     pub fn number(&self) -> u8
         ensures { result ≡ fault_number self.now }
     {
@@ -76,9 +76,6 @@ impl JobFault {
     pub fn raised_by_rule(&self) -> bool
         ensures { result ≡ raised_by_rule self.now }
     {
-        match self {
-            JobFault::ClaimedBy(_) | JobFault::Stale => true,
-            _ => false,
-        }
+        matches!(self, JobFault::ClaimedBy(_) | JobFault::Stale)
     }
 }

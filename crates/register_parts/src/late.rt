@@ -11,18 +11,19 @@ const LONG_LAG: u32 = 2;
 impl Bay {
     // Whether the tick closes the job in this bay of a class of the given grade: an update job of the tick's grade that reads lower classes
     // below the version declared, or, at a tick at grade 0, a long job whose version would no longer be kept.
+    // The grade is the class's and the tick the clock's: a struct of the two would be made for each class of a sweep and say no more.
     pub fn is_late(self, grade: u8, tick: Declaration) -> bool
         ensures { result ≡ late_bay grade tick self }
     {
         match self {
-            Bay::Open(Job::Update(job)) => match job.down {
-                Some(down) => grade == tick.grade && down < tick.number,
-                None => false,
-            },
+            Bay::Open(Job::Update(job)) => grade == tick.grade
+                && job.down.is_some_and(|down| down < tick.number),
             Bay::Open(Job::Long(number)) => tick.grade == 0
-                && tick.number >= LONG_LAG
-                && number <= tick.number - LONG_LAG,
-            _ => false,
+                && tick
+                    .number
+                    .checked_sub(LONG_LAG)
+                    .is_some_and(|oldest| number <= oldest),
+            Bay::Free | Bay::Closed => false,
         }
     }
 

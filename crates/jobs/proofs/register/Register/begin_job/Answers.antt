@@ -1,30 +1,60 @@
-use Rattle.std.proofs.Common.{◌<◌, length, Err, ap, ◌∙◌, subst, arith}
+use Rattle.std.proofs.Common.{Err, ap, ◌∙◌, rules}
 use Rattle.std.proofs.lemmas.Result.{err_from_is_err_and}
-use Rattle.laws.specs.Calls.{by, begin, done}
+use Rattle.laws.specs.Calls.{Action, by, begin}
 use Rattle.jobs.specs.Faults.{done_reply}
-use Rattle.jobs.specs.Parts.{class_in}
-use Rattle.jobs.proofs.Exits.{at_register}
-use Rattle.jobs.proofs.Entrance.{Inside, through, outside}
-use Rattle.jobs.proofs.Beginning.{was_free}
+use Rattle.jobs.proofs.Exits.{at_reply, at_register, unchanged}
+use Rattle.jobs.proofs.Entrance.{outside, not_known, through, for_numbers}
+use Rattle.jobs.proofs.Beginning.{kind_known, kind_unknown, was_free, not_free}
 use Rattle.jobs.proofs.register.Register.begin_job.Goals as goal
 
-pub returns-in_err-door : goal.returns-in_err-door
-returns-in_err-door g c =
+pub returns-in_err-id : goal.returns-in_err-id
+returns-in_err-id g c =
+    let o = g.O.ClassOrder in
+    let v = g.V.Value in
+    let r = g.R.LocalRule in
+    let x = c.args.self.now in
+    let m = c.args.memory.now in
+    let q = by c.args.class c.args.bay (begin c.args.kind) in
     let p = err_from_is_err_and c.from_residual.result c.from_residual.ensures.1 in
-    let z = outside g.O.ClassOrder g.V.Value g.R.LocalRule c.args.self.now c.args.memory.now c.args.class c.args.bay (begin c.args.kind)
-    c.in_err-door.field-0.0 c.in_err-door.ensures.reply in
-    record { reply = ap done_reply (p.1 ∙ ap Err p.2) ∙ z.0; state = z.1 }
+    unchanged o v r x m q (at_reply o v r x m q x m (ap done_reply (p.1 ∙ ap Err p.2))
+    (outside o v r x m c.args.class c.args.bay (begin c.args.kind) c.in_err-id.field-0.0 c.in_err-id.ensures.reply))
+
+pub returns-in_err-kind : goal.returns-in_err-kind
+returns-in_err-kind g c =
+    let o = g.O.ClassOrder in
+    let v = g.V.Value in
+    let r = g.R.LocalRule in
+    let x = c.args.self.now in
+    let m = c.args.memory.now in
+    let q = by c.args.class c.args.bay (begin c.args.kind) in
+    let p = err_from_is_err_and c.from_residual-in_err-kind.result c.from_residual-in_err-kind.ensures.1 in
+    unchanged o v r x m q (at_reply o v r x m q x m (ap done_reply (p.1 ∙ ap Err p.2))
+    (not_known o v r x m c.args.class c.args.bay (begin c.args.kind) _ c.in_ok-id.ensures.reply (kind_unknown _ c.args.kind c.in_err-kind.ensures)))
 
 pub returns-in-Free : goal.returns-in-Free
 returns-in-Free g c =
     let o = g.O.ClassOrder in
+    let v = g.V.Value in
+    let r = g.R.LocalRule in
     let x = c.args.self.now in
     let m = c.args.memory.now in
-    let h = subst (Inside o g.V.Value g.R.LocalRule x m c.args.class c.args.bay (begin c.args.kind)) c.in-Free.is
-    (through o g.V.Value g.R.LocalRule x m c.args.class c.args.bay (begin c.args.kind) c.in_ok-door.field-0 c.in_ok-door.ensures.reply) in
-    let few = (g.met.O.ClassOrder.few x.order).1 in
-    let l : c.args.class < length x.classes = omega (arith, h.in_classes, few, c.set_bay.ensures.classes) in
-    let n : c.args.bay < length (class_in x c.args.class).bays = omega (arith, h.in_bays, c.set_bay.ensures.bays) in
-    let z = at_register o g.V.Value g.R.LocalRule x m (by c.args.class c.args.bay (begin c.args.kind)) done m c.set_bay.ensures.state
-    (was_free o g.V.Value g.R.LocalRule x m c.args.class c.args.bay c.args.kind l n c.new_job-job.result c.new_job-job.ensures.reply h) in
-    record { reply = z.0; state = z.1 }
+    let a : Action g.row.V.Denot = begin c.args.kind in
+    let id = c.in_ok-id.id in
+    let h = through o v r x m a id _ (search rules) c.bay.ensures.eight (kind_known _ c.args.kind c.in_ok-kind.ensures) c.in_ok-id.ensures.reply c.in_ok-id.ensures.names c.in-Free.ensures.reply in
+    for_numbers o v r x m a id c.in_ok-id.ensures.names
+    (unchanged o v r x m (by id.class id.bay a)
+    (at_register o v r x m (by id.class id.bay a) _ m c.set_bay.ensures.state
+    (was_free o v r x m id.class id.bay c.args.kind c.in_ok-kind.kind c.in_ok-kind.ensures c.new_job-job.result c.new_job-job.ensures.reply h)))
+
+pub returns-in-Closed : goal.returns-in-Closed
+returns-in-Closed g c =
+    let o = g.O.ClassOrder in
+    let v = g.V.Value in
+    let r = g.R.LocalRule in
+    let x = c.args.self.now in
+    let m = c.args.memory.now in
+    let a : Action g.row.V.Denot = begin c.args.kind in
+    let id = c.in_ok-id.id in
+    let h = through o v r x m a id _ (search rules) c.bay.ensures.eight (kind_known _ c.args.kind c.in_ok-kind.ensures) c.in_ok-id.ensures.reply c.in_ok-id.ensures.names c.bay.ensures.reply in
+    for_numbers o v r x m a id c.in_ok-id.ensures.names
+    (unchanged o v r x m (by id.class id.bay a) (not_free o v r x m id.class id.bay c.args.kind c.bay.result c.in-Closed.is h))

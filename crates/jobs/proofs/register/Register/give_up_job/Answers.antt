@@ -1,46 +1,63 @@
-use Rattle.std.proofs.Common.{◌<◌, length, Err, ap, ◌∙◌, subst, arith}
+use Rattle.std.proofs.Common.{set, refl, Err, ap, ◌∙◌, rules}
 use Rattle.std.proofs.lemmas.Result.{err_from_is_err_and}
+use Rattle.rules.specs.Claims.{forgotten}
+use Rattle.laws.specs.Calls.{by, give_up}
 use Rattle.jobs.specs.Faults.{done_reply}
-use Rattle.laws.specs.Calls.{by, give_up, done}
-use Rattle.jobs.specs.Lent.{none}
-use Rattle.jobs.specs.Parts.{class_in}
-use Rattle.jobs.proofs.Exits.{at_register}
-use Rattle.jobs.proofs.Entrance.{Inside, through, outside}
-use Rattle.jobs.proofs.LentChanges.{nothing_changed, bay_rule_changed}
-use Rattle.jobs.proofs.GivingUp.{was_closed, was_open}
+use Rattle.jobs.specs.Lent.{with_rules}
+use Rattle.jobs.proofs.Exits.{at_reply, at_register, unchanged, with_rule}
+use Rattle.jobs.proofs.Entrance.{outside, through, for_numbers}
+use Rattle.jobs.proofs.RuleCalls.{rule_becomes}
+use Rattle.jobs.proofs.GivingUp.{was_free, was_closed, was_open}
 use Rattle.jobs.proofs.register.Register.give_up_job.Goals as goal
 
-pub returns-in_err-door : goal.returns-in_err-door
-returns-in_err-door g c =
+pub returns-in_err-id : goal.returns-in_err-id
+returns-in_err-id g c =
+    let o = g.O.ClassOrder in
+    let v = g.V.Value in
+    let r = g.R.LocalRule in
+    let x = c.args.self.now in
     let m = c.args.memory.now in
+    let q = by c.args.class c.args.bay give_up in
     let p = err_from_is_err_and c.from_residual.result c.from_residual.ensures.1 in
-    let z = outside g.O.ClassOrder g.V.Value g.R.LocalRule c.args.self.now m c.args.class c.args.bay give_up c.in_err-door.field-0.0 c.in_err-door.ensures.reply in
-    record { reply = ap done_reply (p.1 ∙ ap Err p.2) ∙ z.0; state = z.1; memory = nothing_changed none none m _ }
+    unchanged o v r x m q (at_reply o v r x m q x m (ap done_reply (p.1 ∙ ap Err p.2))
+    (outside o v r x m c.args.class c.args.bay give_up c.in_err-id.field-0.0 c.in_err-id.ensures.reply))
+
+pub returns-in-Free : goal.returns-in-Free
+returns-in-Free g c =
+    let o = g.O.ClassOrder in
+    let v = g.V.Value in
+    let r = g.R.LocalRule in
+    let x = c.args.self.now in
+    let m = c.args.memory.now in
+    let id = c.in_ok-id.id in
+    let h = through o v r x m give_up id _ (search rules) c.bay.ensures.eight refl c.in_ok-id.ensures.reply c.in_ok-id.ensures.names c.in-Free.ensures.reply in
+    for_numbers o v r x m give_up id c.in_ok-id.ensures.names
+    (unchanged o v r x m (by id.class id.bay give_up) (was_free o v r x m id.class id.bay h))
 
 pub returns-in-Closed : goal.returns-in-Closed
 returns-in-Closed g c =
     let o = g.O.ClassOrder in
+    let v = g.V.Value in
+    let r = g.R.LocalRule in
     let x = c.args.self.now in
     let m = c.args.memory.now in
-    let h = subst (Inside o g.V.Value g.R.LocalRule x m c.args.class c.args.bay give_up) c.in-Closed.is
-    (through o g.V.Value g.R.LocalRule x m c.args.class c.args.bay give_up c.in_ok-door.field-0 c.in_ok-door.ensures.reply) in
-    let few = (g.met.O.ClassOrder.few x.order).1 in
-    let l : c.args.class < length x.classes = omega (arith, h.in_classes, few, c.set_bay.ensures.classes) in
-    let n : c.args.bay < length (class_in x c.args.class).bays = omega (arith, h.in_bays, c.set_bay.ensures.bays) in
-    let z = at_register o g.V.Value g.R.LocalRule x m (by c.args.class c.args.bay give_up) done m c.set_bay.ensures.state
-    (was_closed o g.V.Value g.R.LocalRule x m c.args.class c.args.bay l n h) in
-    record { reply = z.0; state = z.1; memory = nothing_changed none none m _ }
+    let id = c.in_ok-id.id in
+    let h = through o v r x m give_up id _ (search rules) c.bay.ensures.eight refl c.in_ok-id.ensures.reply c.in_ok-id.ensures.names c.in-Closed.ensures.reply in
+    for_numbers o v r x m give_up id c.in_ok-id.ensures.names
+    (unchanged o v r x m (by id.class id.bay give_up)
+    (at_register o v r x m (by id.class id.bay give_up) _ m c.set_bay.ensures.state (was_closed o v r x m id.class id.bay h)))
 
 pub returns-in-Open : goal.returns-in-Open
 returns-in-Open g c =
     let o = g.O.ClassOrder in
+    let v = g.V.Value in
+    let r = g.R.LocalRule in
     let x = c.args.self.now in
     let m = c.args.memory.now in
-    let h = subst (Inside o g.V.Value g.R.LocalRule x m c.args.class c.args.bay give_up) c.in-Open.is
-    (through o g.V.Value g.R.LocalRule x m c.args.class c.args.bay give_up c.in_ok-door.field-0 c.in_ok-door.ensures.reply) in
-    let few = (g.met.O.ClassOrder.few x.order).1 in
-    let l : c.args.class < length x.classes = omega (arith, h.in_classes, few, c.end_job.ensures.classes) in
-    let n : c.args.bay < length (class_in x c.args.class).bays = omega (arith, h.in_bays, c.end_job.ensures.bays) in
-    let z = at_register o g.V.Value g.R.LocalRule x m (by c.args.class c.args.bay give_up) done c.end_job.new.memory c.end_job.ensures.state
-    (was_open o g.V.Value g.R.LocalRule x m c.args.class c.args.bay l n c.in-Open.field-0 h c.end_job.new.memory c.end_job.ensures.memory) in
-    record { reply = z.0; state = z.1; memory = bay_rule_changed none none m g.R.LocalRule _ c.args.class c.args.bay h.in_classes h.in_bays _ c.end_job.new.memory c.end_job.ensures.memory }
+    let id = c.in_ok-id.id in
+    let h = through o v r x m give_up id _ (search rules) c.bay.ensures.eight refl c.in_ok-id.ensures.reply c.in_ok-id.ensures.names c.in-Open.ensures.reply in
+    let m' = with_rules m (set m.rules.now id.class c.end_job.new.rule) in
+    let w = rule_becomes r m id.class _ c.end_job.new.rule (forgotten id.bay) h.in_rules c.end_job.ensures.rule in
+    for_numbers o v r x m give_up id c.in_ok-id.ensures.names
+    (with_rule o v r x m id.class id.bay give_up h.in_classes h.in_bays w
+    (at_register o v r x m (by id.class id.bay give_up) _ m' c.end_job.ensures.state (was_open o v r x m id.class id.bay c.in-Open.field-0 h m' w)))

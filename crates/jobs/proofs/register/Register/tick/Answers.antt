@@ -12,8 +12,7 @@ returns g c =
       antisymmetric = g.met.O.ClassOrder.antisymmetric;
       transitive = g.met.O.ClassOrder.transitive;
       monotone = g.met.O.ClassOrder.monotone;
-      readers = g.met.R.LocalRule.readers;
-      writers = g.met.R.LocalRule.writers;
+      rivals = g.met.R.LocalRule.rivals;
     } in
     record {
       reply = done.reply;

@@ -3,7 +3,7 @@ use lib.ListN.{length-map}
 use Rattle.std.proofs.lemmas.List.{get_or-map}
 use Rattle.register_parts.specs.CheckedCounts.{said}
 use Rattle.register_parts.specs.declared.class_setup.ClassSetup.{ClassSetup}
-use Rattle.register_parts.proofs.ItemCounting.{counted_next, too_many_classes, too_many_items, too_many_in_all, all_counted, table_small, table_sum}
+use Rattle.register_parts.proofs.ItemCounting.{counted_next, too_many_items, table_small, table_sum}
 use Rattle.register_parts.proofs.item_counts.ItemCounts.new.Goals as goal
 
 -- As many counts as records, and each is that of its record.
@@ -12,11 +12,6 @@ as_many records = length-map records (λ (x : ClassSetup). x.items)
 
 count_at : (records : List ClassSetup) (i : ℕ) → i < length records → (get_or records i (record { items = 0 })).items ≡ get_or (said records) i 0
 count_at records i h = sym (get_or-map (λ (x : ClassSetup). x.items) records i (record { items = 0 }) 0 h)
-
-pub returns-then-records-gt-MOST_CLASSES : goal.returns-then-records-gt-MOST_CLASSES
-returns-then-records-gt-MOST_CLASSES c =
-    let n = as_many c.args.records.now in
-    record { reply = too_many_classes (said c.args.records.now) (omega (arith, c.if-records-gt-MOST_CLASSES.true)) }
 
 pub returns-then-record-gt-MOST_ITEMS : goal.returns-then-record-gt-MOST_ITEMS
 returns-then-record-gt-MOST_ITEMS c =
@@ -32,13 +27,7 @@ loop-class-preserved c =
     let i = c.loop-class.class in
     let n = as_many records in
     let within : i < length records = omega arith in
-    counted_next (said records) c.loop-class.items i c.loop-class.sum (get_or records i (record { items = 0 })).items c.loop-class.invariant (omega arith) (omega arith) (count_at records i within) (omega arith)
-
-pub returns-then-sum-gt-MOST_ITEMS_IN_ALL : goal.returns-then-sum-gt-MOST_ITEMS_IN_ALL
-returns-then-sum-gt-MOST_ITEMS_IN_ALL c =
-    let records = c.args.records.now in
-    let n = as_many records in
-    record { reply = too_many_in_all (said records) (omega arith) c.loop-class.items c.loop-class.class c.loop-class.sum c.loop-class.invariant (omega arith) (omega arith) }
+    rw c.from-sum.ensures (counted_next (said records) c.loop-class.items i c.loop-class.sum (get_or records i (record { items = 0 })).items c.loop-class.invariant (omega arith) (omega arith) (count_at records i within) (omega arith))
 
 pub invariant_of-result : goal.invariant_of-result
 invariant_of-result c =
@@ -47,9 +36,3 @@ invariant_of-result c =
       few = table_small (said records) (omega arith) c.loop-class.items c.loop-class.class c.loop-class.sum c.loop-class.invariant (omega arith);
       few_in_all = table_sum (said records) (omega arith) c.loop-class.items c.loop-class.class c.loop-class.sum c.loop-class.invariant (omega arith) (omega arith);
     }
-
-pub returns : goal.returns
-returns c =
-    let records = c.args.records.now in
-    let n = as_many records in
-    record { reply = all_counted (said records) (omega arith) c.loop-class.items c.loop-class.class c.loop-class.sum c.loop-class.invariant (omega arith) (omega arith) (omega arith) }

@@ -1,2 +1,0 @@
-// The clock of a register.
-pub use register_parts::clock::Clock;

@@ -1,2 +1,0 @@
-// What a tick declares.
-pub use register_parts::declaration::Declaration;
