@@ -46,12 +46,10 @@ impl ClassOrder for DiamondOrder {
     }
 
     fn grade(&self, c: u8) -> u8 {
-        if c == MAKER {
-            0
-        } else if c == AUDITOR {
-            2
-        } else {
-            1
+        match c {
+            MAKER => 0,
+            AUDITOR => 2,
+            _ => 1,
         }
     }
 }

@@ -3,49 +3,46 @@
 
 mod diamond_order;
 mod diamond_session;
+mod replies;
+mod scene;
 mod session;
 mod steps;
-mod told;
 
 use cells::cell::Cell;
 use diamond_order::{DiamondOrder, LEFT, RIGHT};
 use diamond_session::{diamond_session, records};
 use exclusive_rule::exclusive::Exclusive;
 use jobs::memory::Memory;
-use jobs::register::Register;
+use replies::value;
 use rules::local_rule::LocalRule;
+use scene::Scene;
 use session::set_up;
 use std::io;
 use steps::{AUDIT, ORDERING, READING, RELEASE, WATCHING};
-use told::{part, value};
 
-// The whole scene on a register that is set up.
-fn scene(
-    rt: HostRuntime,
-    register: &mut Register<DiamondOrder>,
-    memory: &mut Memory<'_, u32, Exclusive>,
-    silent: Option<u8>,
-) -> io::Result<()> {
-    println!(rt; "  The maker releases firmware 41 with layout 3.")?;
-    part(rt, register, memory, &RELEASE, silent)?;
-    println!(rt; "  The rivals read it.")?;
-    part(rt, register, memory, &READING, silent)?;
-    println!(rt; "  Each asks for the other's order: it is not below.")?;
-    part(rt, register, memory, &WATCHING, silent)?;
-    println!(rt; "  Each orders probes.")?;
-    part(rt, register, memory, &ORDERING, silent)?;
-    println!(rt; "  The auditor reads both orders.")?;
-    part(rt, register, memory, &AUDIT, silent)
-}
-
-// The scene on a fresh register.
+// All parts of a scene, on a fresh register.
 fn play(
     rt: HostRuntime,
-    memory: &mut Memory<'_, u32, Exclusive>,
+    mut memory: Memory<'_, u32, Exclusive>,
     silent: Option<u8>,
 ) -> io::Result<()> {
-    match set_up(DiamondOrder, &records(), 0, memory) {
-        Ok(mut register) => scene(rt, &mut register, memory, silent),
+    match set_up(DiamondOrder, &records(), 0, &mut memory) {
+        Ok(register) => {
+            let mut scene = Scene {
+                rt,
+                register,
+                memory,
+                silent,
+            };
+            scene.part("The maker releases firmware 41 with layout 3.", &RELEASE)?;
+            scene.part("The rivals read it.", &READING)?;
+            scene.part(
+                "Each asks for the other's order: it is not below.",
+                &WATCHING,
+            )?;
+            scene.part("Each orders probes.", &ORDERING)?;
+            scene.part("The auditor reads both orders.", &AUDIT)
+        }
         Err(fault) => println!(rt; "the register is not set up: number {}", fault.number()),
     }
 }
@@ -70,17 +67,30 @@ fn main(rt: HostRuntime) -> io::Result<()> {
     let mut cells = [Cell::<u32>::starting(); 5];
     let mut pending = [0u32; 256];
     let mut rules = [rule; 4];
+    for (title, silent) in [
+        ("Both rivals act:", None),
+        (
+            "The right rival keeps silent, and the left is told the same:",
+            Some(RIGHT),
+        ),
+        (
+            "The left rival keeps silent, and the right is told the same:",
+            Some(LEFT),
+        ),
+    ] {
+        println!(rt; "{title}")?;
+        let memory = Memory {
+            cells: &mut cells,
+            pending: &mut pending,
+            rules: &mut rules,
+        };
+        play(rt, memory, silent)?;
+    }
+    println!(rt; "A session whose contract says how it comes out:")?;
     let mut memory = Memory {
         cells: &mut cells,
         pending: &mut pending,
         rules: &mut rules,
     };
-    println!(rt; "Both rivals act:")?;
-    play(rt, &mut memory, None)?;
-    println!(rt; "The right rival keeps silent, and the left is told the same:")?;
-    play(rt, &mut memory, Some(RIGHT))?;
-    println!(rt; "The left rival keeps silent, and the right is told the same:")?;
-    play(rt, &mut memory, Some(LEFT))?;
-    println!(rt; "A session whose contract says how it comes out:")?;
     promised(rt, &mut memory)
 }

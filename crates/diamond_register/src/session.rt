@@ -43,7 +43,8 @@ pub fn set_up<O: ClassOrder + Drop, V: Value, R: LocalRule + Drop>(
     Ok(register)
 }
 
-// Class 0 publishes a value; class 1 reads it, and then asks for the item of its rival.
+// Class 0 publishes a value; class 1 reads it, and then asks for the item of its rival. Classes, bays, items and the kind of job stand
+// as the numbers that the definition of the session has.
 pub fn session<O: ClassOrder, V: Value, R: LocalRule>(
     register: &mut Register<O>,
     memory: &mut Memory<'_, V, R>,

@@ -1,4 +1,5 @@
 // The scene as calls by number: a release by the maker, orders by the two rivals, and the auditor's look at both.
+// Steps are data: a scene leaves out those of the class that keeps silent, which a closure would not name.
 use crate::diamond_order::{AUDITOR, LEFT, MAKER, RIGHT};
 
 #[derive(Clone, Copy)]

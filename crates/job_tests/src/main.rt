@@ -2,6 +2,7 @@
 #![tactic(auto)]
 
 mod calls;
+mod replies;
 mod request;
 mod scenes;
 mod set_ups;

@@ -14,6 +14,7 @@ fn flat(classes: u8) -> Result<DrawnOrder, OrderFault> {
     Ok(order)
 }
 
+// The words are this table's own.
 fn no_order(rt: HostRuntime, fault: OrderFault) -> io::Result<()> {
     match fault {
         OrderFault::TooManyClasses => println!(rt; "the order has too many classes"),

@@ -1,5 +1,5 @@
 // Slips: bytes that are no slip are refused as no value.
-use crate::table::answered;
+use crate::replies::answered;
 use cells::cell::Cell;
 use cells::slip::Slip;
 use cells::value::Value;
@@ -7,20 +7,9 @@ use jobs::class_setup::ClassSetup;
 use jobs::memory::Memory;
 use jobs::register::Register;
 use orders::drawn_order::DrawnOrder;
+use register_parts::job_kind::JobKind;
 use rules::chosen_rule::ChosenRule;
 use std::io;
-
-// Writes what the bytes stand for.
-fn row(
-    rt: HostRuntime,
-    register: &mut Register<DrawnOrder>,
-    memory: &mut Memory<'_, Slip, ChosenRule>,
-    what: &str,
-    bytes: &[u8],
-) -> io::Result<()> {
-    print!(rt; "    write {what}: ")?;
-    answered(rt, register.write(memory, 0, 0, 0, Slip::read(bytes)))
-}
 
 fn one_class() -> Option<Register<DrawnOrder>> {
     let order = DrawnOrder::new(0b0).ok()?;
@@ -44,26 +33,15 @@ pub fn slips(rt: HostRuntime, rule: ChosenRule) -> io::Result<()> {
         return println!(rt; "    not filled");
     }
     print!(rt; "    begin: ")?;
-    answered(rt, register.begin(&memory, 0, 0, 0))?;
-    row(
-        rt,
-        &mut register,
-        &mut memory,
-        "state 2",
-        &[0, 0, 0, 1, 7, 2],
-    )?;
-    row(
-        rt,
-        &mut register,
-        &mut memory,
-        "state 3",
-        &[0, 0, 0, 1, 7, 3],
-    )?;
-    row(
-        rt,
-        &mut register,
-        &mut memory,
-        "five bytes",
-        &[0, 0, 0, 1, 7],
-    )
+    answered(rt, register.begin(&memory, 0, 0, u8::from(JobKind::Update)))?;
+    let rows: [(&str, &[u8]); 3] = [
+        ("state 2", &[0, 0, 0, 1, 7, 2]),
+        ("state 3", &[0, 0, 0, 1, 7, 3]),
+        ("five bytes", &[0, 0, 0, 1, 7]),
+    ];
+    for (what, bytes) in rows {
+        print!(rt; "    write {what}: ")?;
+        answered(rt, register.write(&mut memory, 0, 0, 0, Slip::read(bytes)))?;
+    }
+    Ok(())
 }

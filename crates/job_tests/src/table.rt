@@ -1,77 +1,91 @@
-// Rows of the table: a call, and the number with which it is refused, or what it gives.
-use crate::request::Request;
+// The table: where its lines go, and the memory that is lent to the register of each part.
+use crate::replies::{answered, read, ticked};
+use crate::request::{Part, Request};
 use cells::value::Value;
-use jobs::declaration::Declaration;
-use jobs::job_fault::JobFault;
+use jobs::class_setup::ClassSetup;
 use jobs::memory::Memory;
 use jobs::register::Register;
 use orders::drawn_order::DrawnOrder;
 use rules::chosen_rule::ChosenRule;
 use std::io;
 
-fn refused(rt: HostRuntime, fault: JobFault) -> io::Result<()> {
-    let number = fault.number();
-    match fault.named() {
-        Some(bay) => println!(rt; "{number}, bay {bay}"),
-        None => println!(rt; "{number}"),
-    }
+#[derive(Drop)]
+pub struct Table<'a> {
+    pub rt: HostRuntime,
+    pub memory: Memory<'a, u32, ChosenRule>,
 }
 
-pub fn answered(rt: HostRuntime, reply: Result<(), JobFault>) -> io::Result<()> {
-    match reply {
-        Ok(()) => println!(rt; "accepted"),
-        Err(fault) => refused(rt, fault),
-    }
+// Class 1 directly above class 0.
+// Each program draws its order itself, by the two calls that its reader would make: a function for three programs is no plainer.
+fn two_classes() -> Option<DrawnOrder> {
+    let mut order = DrawnOrder::new(0b0).ok()?;
+    order.add(0b1).ok()?;
+    Some(order)
 }
 
-fn read(rt: HostRuntime, reply: Result<u32, JobFault>) -> io::Result<()> {
-    match reply {
-        Ok(value) => println!(rt; "accepted, {value}"),
-        Err(fault) => refused(rt, fault),
-    }
+pub fn fresh_register(variant: u8) -> Option<Register<DrawnOrder>> {
+    let records = [ClassSetup { items: 10 }, ClassSetup { items: 1 }];
+    Register::new(two_classes()?, &records, variant).ok()
 }
 
-pub fn ticked(rt: HostRuntime, reply: Result<Declaration, JobFault>) -> io::Result<()> {
-    match reply {
-        Ok(Declaration { grade, number }) => println!(rt; "accepted, {number} at grade {grade}"),
-        Err(fault) => refused(rt, fault),
-    }
-}
-
-// Makes the call, and prints its row.
-pub fn row(
-    rt: HostRuntime,
-    register: &mut Register<DrawnOrder>,
-    memory: &mut Memory<'_, u32, ChosenRule>,
-    request: Request,
-) -> io::Result<()> {
-    match request {
-        Request::Begin(class, bay, kind) => {
-            print!(rt; "    begin {class} {bay} kind {kind}: ")?;
-            answered(rt, register.begin(memory, class, bay, kind))
+impl Table<'_> {
+    // A part of the table on a fresh register.
+    pub fn part(&mut self, part: &Part) -> io::Result<()> {
+        println!(self.rt; "{}", part.title)?;
+        let Some(mut register) = fresh_register(part.variant) else {
+            return println!(self.rt; "    no register");
+        };
+        match register.fill(&mut self.memory) {
+            Ok(()) => self.rows(&mut register, part.requests),
+            Err(fault) => println!(self.rt; "    fill: {}", fault.number()),
         }
-        Request::Read(class, bay, other, item) => {
-            print!(rt; "    read {class} {bay} of class {other} item {item}: ")?;
-            read(rt, register.read(memory, class, bay, other, item))
+    }
+
+    pub fn rows(
+        &mut self,
+        register: &mut Register<DrawnOrder>,
+        requests: &[Request],
+    ) -> io::Result<()> {
+        for request in requests {
+            self.row(register, *request)?;
         }
-        Request::Write(class, bay, item, value) => {
-            match value {
-                Some(value) => print!(rt; "    write {class} {bay} item {item} value {value}: ")?,
-                None => print!(rt; "    write {class} {bay} item {item} no value: ")?,
+        Ok(())
+    }
+
+    // Makes the call, and prints its row.
+    fn row(&mut self, register: &mut Register<DrawnOrder>, request: Request) -> io::Result<()> {
+        let rt = self.rt;
+        let memory = &mut self.memory;
+        match request {
+            Request::Begin(class, bay, kind) => {
+                print!(rt; "    begin {class} {bay} kind {kind}: ")?;
+                answered(rt, register.begin(memory, class, bay, kind))
             }
-            answered(rt, register.write(memory, class, bay, item, value))
-        }
-        Request::Commit(class, bay) => {
-            print!(rt; "    commit {class} {bay}: ")?;
-            answered(rt, register.commit(memory, class, bay))
-        }
-        Request::GiveUp(class, bay) => {
-            print!(rt; "    give up {class} {bay}: ")?;
-            answered(rt, register.give_up(memory, class, bay))
-        }
-        Request::Tick => {
-            print!(rt; "    tick: ")?;
-            ticked(rt, register.tick(memory))
+            Request::Read(class, bay, other, item) => {
+                print!(rt; "    read {class} {bay} of class {other} item {item}: ")?;
+                read(rt, register.read(memory, class, bay, other, item))
+            }
+            Request::Write(class, bay, item, value) => {
+                match value {
+                    Some(value) => print!(rt;
+                        "    write {class} {bay} item {item} value {value}: "
+                    )?,
+                    None => print!(rt; "    write {class} {bay} item {item} no value: ")?,
+                }
+                answered(rt, register.write(memory, class, bay, item, value))
+            }
+            Request::Commit(class, bay) => {
+                print!(rt; "    commit {class} {bay}: ")?;
+                answered(rt, register.commit(memory, class, bay))
+            }
+            Request::GiveUp(class, bay) => {
+                print!(rt; "    give up {class} {bay}: ")?;
+                answered(rt, register.give_up(memory, class, bay))
+            }
+            Request::Tick => {
+                print!(rt; "    tick: ")?;
+                ticked(rt, register.tick(memory))
+            }
         }
     }
 }

@@ -1,7 +1,7 @@
 //! A release is withdrawn while two stations read it: played through the calls of the register, and told in words.
 #![tactic(auto)]
 
-mod told;
+mod scene;
 
 use cells::cell::Cell;
 use jobs::class_setup::ClassSetup;
@@ -10,8 +10,8 @@ use jobs::register::Register;
 use orders::drawn_order::DrawnOrder;
 use rules::local_rule::LocalRule;
 use rules::locks::Locks;
+use scene::Scene;
 use std::io;
-use told::{begin, commit, read, tick, write};
 
 // The maker is class 0, whose items are the firmware number and the table layout; the distributor is class 1, above it.
 const MAKER: u8 = 0;
@@ -23,42 +23,34 @@ const FIRMWARE: u8 = 0;
 const LAYOUT: u8 = 1;
 
 // The maker releases firmware 41 with layout 3.
-fn release(
-    rt: HostRuntime,
-    register: &mut Register<DrawnOrder>,
-    memory: &mut Memory<'_, u32, Locks>,
-) -> io::Result<()> {
-    println!(rt; "The maker releases firmware 41 with layout 3.")?;
-    begin(rt, register, memory, MAKER, 0)?;
-    write(rt, register, memory, MAKER, 0, FIRMWARE, 41)?;
-    write(rt, register, memory, MAKER, 0, LAYOUT, 3)?;
-    commit(rt, register, memory, MAKER, 0)
+fn release(scene: &mut Scene<'_>) -> io::Result<()> {
+    scene.tell("The maker releases firmware 41 with layout 3.")?;
+    scene.begin(MAKER, 0)?;
+    scene.write(MAKER, 0, FIRMWARE, 41)?;
+    scene.write(MAKER, 0, LAYOUT, 3)?;
+    scene.commit(MAKER, 0)
 }
 
 // One station reads too early, and after the tick still sees the same release; another reads the new one and commits first.
-fn stations(
-    rt: HostRuntime,
-    register: &mut Register<DrawnOrder>,
-    memory: &mut Memory<'_, u32, Locks>,
-) -> io::Result<()> {
-    println!(rt;
-        "A station reads the firmware before the release is declared, and the layout after."
+fn stations(scene: &mut Scene<'_>) -> io::Result<()> {
+    scene.tell(
+        "A station reads the firmware before the release is declared, and the layout after.",
     )?;
-    begin(rt, register, memory, DISTRIBUTOR, 0)?;
-    read(rt, register, memory, DISTRIBUTOR, 0, MAKER, FIRMWARE)?;
-    tick(rt, register, memory)?;
-    read(rt, register, memory, DISTRIBUTOR, 0, MAKER, LAYOUT)?;
-    println!(rt; "A second station reads the release that is declared now, and commits first.")?;
-    begin(rt, register, memory, DISTRIBUTOR, 1)?;
-    read(rt, register, memory, DISTRIBUTOR, 1, MAKER, FIRMWARE)?;
-    commit(rt, register, memory, DISTRIBUTOR, 1)?;
-    println!(rt; "So the first station, whose release is older, cannot commit any more.")?;
-    commit(rt, register, memory, DISTRIBUTOR, 0)?;
-    tick(rt, register, memory)
+    scene.begin(DISTRIBUTOR, 0)?;
+    scene.read(DISTRIBUTOR, 0, MAKER, FIRMWARE)?;
+    scene.tick()?;
+    scene.read(DISTRIBUTOR, 0, MAKER, LAYOUT)?;
+    scene.tell("A second station reads the release that is declared now, and commits first.")?;
+    scene.begin(DISTRIBUTOR, 1)?;
+    scene.read(DISTRIBUTOR, 1, MAKER, FIRMWARE)?;
+    scene.commit(DISTRIBUTOR, 1)?;
+    scene.tell("So the first station, whose release is older, cannot commit any more.")?;
+    scene.commit(DISTRIBUTOR, 0)?;
+    scene.tick()
 }
 
 // Plays both scenes on a register that is set up, in memory of its own.
-fn play(rt: HostRuntime, mut register: Register<DrawnOrder>, rule: Locks) -> io::Result<()> {
+fn play(rt: HostRuntime, register: Register<DrawnOrder>, rule: Locks) -> io::Result<()> {
     let mut cells = [Cell::<u32>::starting(); 3];
     let mut pending = [0u32; 128];
     let mut rules = [rule; 2];
@@ -69,14 +61,20 @@ fn play(rt: HostRuntime, mut register: Register<DrawnOrder>, rule: Locks) -> io:
     };
     match register.fill(&mut memory) {
         Ok(()) => {
-            release(rt, &mut register, &mut memory)?;
-            stations(rt, &mut register, &mut memory)
+            let mut scene = Scene {
+                rt,
+                register,
+                memory,
+            };
+            release(&mut scene)?;
+            stations(&mut scene)
         }
         Err(fault) => println!(rt; "the memory is not filled: number {}", fault.number()),
     }
 }
 
 // Class 1 is directly above class 0.
+// Each program draws its order itself, by the two calls that its reader would make: a function for three programs is no plainer.
 fn order() -> Option<DrawnOrder> {
     let mut order = DrawnOrder::new(0b0).ok()?;
     order.add(0b1).ok()?;

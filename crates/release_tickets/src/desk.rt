@@ -1,38 +1,47 @@
 // A desk: a register with the memory lent to it, at which jobs run by their tickets and each action is told in words.
-ghost use Rattle.std.specs.Prelude.{◌≡◌, None};
+ghost use Rattle.std.specs.Prelude.{◌≡◌, true, None};
+ghost use Rattle.jobs.specs.Represents.{enough};
 ghost use Rattle.tickets.specs.Tickets.{unspent};
-ghost use Rattle.release_tickets.specs.Desks.{Served, ServedOnceFilled};
 
 use crate::holder::Holder;
 use crate::item::Item;
-use crate::reasons::reason;
 use crate::telling::Telling;
-use crate::words::{InWords, Words};
+use crate::words::KindInWords;
 use cells::value::Value;
 use jobs::declaration::Declaration;
 use jobs::job_fault::JobFault;
 use jobs::memory::Memory;
 use jobs::register::Register;
-use jobs::setup_fault::SetUpFault;
 use orders::class_order::ClassOrder;
 use rules::local_rule::LocalRule;
+use std::fmt::Display;
 use std::io;
 use tickets::job_kind::{JobKind, Update};
 use tickets::ticket::{EndFault, Ticket};
 
+// Its memory is enough for every call, so that no ticket ever comes back.
 #[derive(Drop)]
-pub struct Desk<'a, O, V, R> {
+pub struct Desk<'a, O: ClassOrder, V: Value, R: LocalRule> {
     pub register: Register<O>,
     pub memory: Memory<'a, V, R>,
     pub telling: Telling,
+    ghost lent: { enough (O.ClassOrder) (V.Value) (R.LocalRule) register memory ≡ true },
 }
 
-impl<'a, O: ClassOrder + Drop, V: Value + InWords, R: LocalRule + Drop> Desk<'a, O, V, R> {
-    // Fills the memory for a fresh register; it then serves every call.
-    pub fn fill(&mut self) -> Result<(), SetUpFault>
-        ensures lent { ServedOnceFilled (O.ClassOrder) (V.Value) (R.LocalRule) result self.new }
+impl<'a, O: ClassOrder + Drop, V: Value + Display, R: LocalRule + Drop> Desk<'a, O, V, R> {
+    // The memory is filled before: a `Result` of a desk, which holds a `&mut` and has an invariant, was tried and refused.
+    pub(crate) fn new(
+        rt: HostRuntime,
+        register: Register<O>,
+        memory: Memory<'a, V, R>,
+    ) -> Desk<'a, O, V, R>
+        requires { enough (O.ClassOrder) (V.Value) (R.LocalRule) register memory ≡ true }
     {
-        self.register.fill(&mut self.memory)
+        Desk {
+            register,
+            memory,
+            telling: Telling::new(rt),
+        }
     }
 
     // Whether every line was written.
@@ -41,39 +50,26 @@ impl<'a, O: ClassOrder + Drop, V: Value + InWords, R: LocalRule + Drop> Desk<'a,
     }
 
     // A line of the story between the actions.
-    pub(crate) fn tell(&mut self, line: &str)
-        requires lent { Served (O.ClassOrder) (V.Value) (R.LocalRule) self.old }
-        ensures lent { Served (O.ClassOrder) (V.Value) (R.LocalRule) self.new }
-    {
-        let rt = self.telling.rt;
-        self.telling.note(println!(rt; "{line}"));
+    pub(crate) fn tell(&mut self, line: &str) {
+        self.telling.line(line);
     }
 
-    fn refused(&mut self, name: &str, action: &str, fault: JobFault)
-        requires lent { Served (O.ClassOrder) (V.Value) (R.LocalRule) self.old }
-        ensures lent { Served (O.ClassOrder) (V.Value) (R.LocalRule) self.new }
-    {
-        let rt = self.telling.rt;
+    fn refused(&mut self, name: &str, action: &str, fault: JobFault) {
         let number = fault.number();
-        let why = reason(fault);
-        self.telling.note(println!(rt; "    {name}: {action} is refused with {number}, {why}"));
+        self.telling.line(format_args!("    {name}: {action} is refused with {number}, {fault}"));
     }
 
     // Begins a job of a kind in a bay, for somebody.
-    pub(crate) fn begin<K: JobKind>(
+    pub(crate) fn begin<K: KindInWords>(
         &mut self,
         name: &'static str,
         class: u8,
         bay: u8,
-    ) -> Option<Holder<K>>
-        requires lent { Served (O.ClassOrder) (V.Value) (R.LocalRule) self.old }
-        ensures lent { Served (O.ClassOrder) (V.Value) (R.LocalRule) self.new }
-    {
+    ) -> Option<Holder<K>> {
         match Ticket::<K>::begin(&mut self.register, &self.memory, class, bay) {
             Ok(ticket) => {
-                let rt = self.telling.rt;
-                let kind = kind_in_words::<K>();
-                self.telling.note(println!(rt; "    {name} begins {kind}"));
+                let kind = K::WORDS;
+                self.telling.line(format_args!("    {name} begins {kind}"));
                 Some(Holder { name, ticket })
             }
             Err(fault) => {
@@ -83,10 +79,7 @@ impl<'a, O: ClassOrder + Drop, V: Value + InWords, R: LocalRule + Drop> Desk<'a,
         }
     }
 
-    pub(crate) fn read<K: JobKind>(&mut self, holder: &Holder<K>, item: Item)
-        requires lent { Served (O.ClassOrder) (V.Value) (R.LocalRule) self.old }
-        ensures lent { Served (O.ClassOrder) (V.Value) (R.LocalRule) self.new }
-    {
+    pub(crate) fn read<K: JobKind>(&mut self, holder: &Holder<K>, item: Item) {
         let name = holder.name;
         let from = item.name;
         match holder.ticket.read(
@@ -96,20 +89,15 @@ impl<'a, O: ClassOrder + Drop, V: Value + InWords, R: LocalRule + Drop> Desk<'a,
             item.number,
         ) {
             Ok(value) => {
-                let rt = self.telling.rt;
-                let value = Words(value);
                 self.telling
-                    .note(println!(rt; "    {name} reads {value} from {from}"));
+                    .line(format_args!("    {name} reads {value} from {from}"));
             }
             Err(fault) => self.refused(name, "read", fault),
         }
     }
 
     // Only who holds an update job's ticket can write.
-    pub(crate) fn write(&mut self, holder: &Holder<Update>, item: Item, value: V)
-        requires lent { Served (O.ClassOrder) (V.Value) (R.LocalRule) self.old }
-        ensures lent { Served (O.ClassOrder) (V.Value) (R.LocalRule) self.new }
-    {
+    pub(crate) fn write(&mut self, holder: &Holder<Update>, item: Item, value: V) {
         let name = holder.name;
         let to = item.name;
         match holder.ticket.write(
@@ -119,28 +107,20 @@ impl<'a, O: ClassOrder + Drop, V: Value + InWords, R: LocalRule + Drop> Desk<'a,
             Some(value),
         ) {
             Ok(()) => {
-                let rt = self.telling.rt;
-                let value = Words(value);
                 self.telling
-                    .note(println!(rt; "    {name} writes {value} to {to}"));
+                    .line(format_args!("    {name} writes {value} to {to}"));
             }
             Err(fault) => self.refused(name, "write", fault),
         }
     }
 
-    pub(crate) fn commit<K: JobKind>(&mut self, holder: Holder<K>)
-        requires lent { Served (O.ClassOrder) (V.Value) (R.LocalRule) self.old }
-        ensures lent { Served (O.ClassOrder) (V.Value) (R.LocalRule) self.new }
-    {
+    pub(crate) fn commit<K: JobKind>(&mut self, holder: Holder<K>) {
         let Holder { name, ticket } = holder;
         let reply = ticket.commit(&mut self.register, &mut self.memory);
         self.ended(name, "commit", reply)
     }
 
-    pub(crate) fn give_up<K: JobKind>(&mut self, holder: Holder<K>)
-        requires lent { Served (O.ClassOrder) (V.Value) (R.LocalRule) self.old }
-        ensures lent { Served (O.ClassOrder) (V.Value) (R.LocalRule) self.new }
-    {
+    pub(crate) fn give_up<K: JobKind>(&mut self, holder: Holder<K>) {
         let Holder { name, ticket } = holder;
         let reply = ticket.give_up(&mut self.register, &mut self.memory);
         self.ended(name, "giving up", reply)
@@ -148,38 +128,24 @@ impl<'a, O: ClassOrder + Drop, V: Value + InWords, R: LocalRule + Drop> Desk<'a,
 
     // Tells how a job ended. Since the memory is enough, no ticket comes back.
     fn ended<K: JobKind>(&mut self, name: &str, action: &str, reply: Result<(), EndFault<K>>)
-        requires lent { Served (O.ClassOrder) (V.Value) (R.LocalRule) self.old }
         requires spent { unspent reply ≡ None }
-        ensures lent { Served (O.ClassOrder) (V.Value) (R.LocalRule) self.new }
     {
         match reply {
             Ok(()) => {
-                let rt = self.telling.rt;
                 self.telling
-                    .note(println!(rt; "    {name}: {action} is accepted"));
+                    .line(format_args!("    {name}: {action} is accepted"));
             }
             Err(EndFault::Refused(fault)) => self.refused(name, action, fault),
-            Err(EndFault::Unspent(_ticket)) => unreachable(),
+            Err(EndFault::Unspent(_ticket)) => unreachable!(),
         }
     }
 
-    pub(crate) fn tick(&mut self)
-        requires lent { Served (O.ClassOrder) (V.Value) (R.LocalRule) self.old }
-        ensures lent { Served (O.ClassOrder) (V.Value) (R.LocalRule) self.new }
-    {
-        let rt = self.telling.rt;
+    pub(crate) fn tick(&mut self) {
         match self.register.tick(&mut self.memory) {
-            Ok(Declaration { grade, number }) => self.telling.note(println!(rt;
+            Ok(Declaration { grade, number }) => self.telling.line(format_args!(
                 "    the clock declares version {number} at grade {grade}"
             )),
             Err(fault) => self.refused("the clock", "tick", fault),
         }
-    }
-}
-
-fn kind_in_words<K: JobKind>() -> &'static str {
-    match K::number() {
-        0 => "an update job",
-        _ => "a long job",
     }
 }

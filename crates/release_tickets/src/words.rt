@@ -1,37 +1,14 @@
-// Values in words.
-use cells::slip::{Slip, SlipState};
-use std::fmt;
+// The kinds of jobs in words.
+use tickets::job_kind::{JobKind, Long, Update};
 
-pub trait InWords {
-    fn put<W: fmt::Write>(&self, f: &mut fmt::Formatter<W>) -> fmt::Result;
+pub trait KindInWords: JobKind {
+    const WORDS: &'static str;
 }
 
-// A value that is printed in words.
-#[derive(Drop)]
-pub struct Words<V>(pub V);
-
-impl<V: InWords> fmt::Display for Words<V> {
-    fn fmt<W: fmt::Write>(&self, f: &mut fmt::Formatter<W>) -> fmt::Result {
-        self.0.put(f)
-    }
+impl KindInWords for Update {
+    const WORDS: &'static str = "an update job";
 }
 
-impl InWords for u32 {
-    fn put<W: fmt::Write>(&self, f: &mut fmt::Formatter<W>) -> fmt::Result {
-        let number = *self;
-        write!(f, "{number}")
-    }
-}
-
-impl InWords for Slip {
-    fn put<W: fmt::Write>(&self, f: &mut fmt::Formatter<W>) -> fmt::Result {
-        let serial = self.serial;
-        let fault = self.fault;
-        let state = match self.state {
-            SlipState::Received => "received",
-            SlipState::Reflashed => "reflashed",
-            SlipState::SentBack => "sent back",
-        };
-        write!(f, "(serial {serial}, fault {fault}, {state})")
-    }
+impl KindInWords for Long {
+    const WORDS: &'static str = "a long job";
 }

@@ -1,12 +1,11 @@
 // Two benches of a workshop take up one slip: the check rule lets both, and the later one fails validation.
-ghost use Rattle.release_tickets.specs.Desks.{Served};
-
 use crate::desk::Desk;
 use crate::item::Item;
-use crate::words::InWords;
+use crate::story::Story;
 use cells::value::Value;
 use orders::class_order::ClassOrder;
 use rules::local_rule::LocalRule;
+use std::fmt::Display;
 use tickets::job_kind::{Long, Update};
 
 // The workshop is class 0, whose only item is the slip.
@@ -18,29 +17,28 @@ const SLIP: Item = Item {
     name: "the slip",
 };
 
-pub(crate) fn play<O: ClassOrder + Drop, V: Value + InWords, R: LocalRule + Drop>(
-    desk: &mut Desk<'_, O, V, R>,
-    received: V,
-    reflashed: V,
-)
-    requires lent { Served (O.ClassOrder) (V.Value) (R.LocalRule) desk.old }
-    ensures lent { Served (O.ClassOrder) (V.Value) (R.LocalRule) desk.new }
-{
-    desk.tell("Slips under the check rule: two benches of a workshop take up one slip.");
-    first_bench(desk, received, reflashed);
-    desk.tick();
-    report(desk);
-    third_bench(desk, received);
+// The slip as the benches write it.
+#[derive(Clone, Copy)]
+pub struct Workshop<V> {
+    pub received: V,
+    pub reflashed: V,
 }
 
-fn first_bench<O: ClassOrder + Drop, V: Value + InWords, R: LocalRule + Drop>(
+impl<V: Value + Display> Story<V> for Workshop<V> {
+    fn play<O: ClassOrder + Drop, R: LocalRule + Drop>(&self, desk: &mut Desk<'_, O, V, R>) {
+        desk.tell("Slips under the check rule: two benches of a workshop take up one slip.");
+        first_bench(desk, self.received, self.reflashed);
+        desk.tick();
+        report(desk);
+        third_bench(desk, self.received);
+    }
+}
+
+fn first_bench<O: ClassOrder + Drop, V: Value + Display, R: LocalRule + Drop>(
     desk: &mut Desk<'_, O, V, R>,
     received: V,
     reflashed: V,
-)
-    requires lent { Served (O.ClassOrder) (V.Value) (R.LocalRule) desk.old }
-    ensures lent { Served (O.ClassOrder) (V.Value) (R.LocalRule) desk.new }
-{
+) {
     if let Some(bench) = desk.begin::<Update>("the first bench", WORKSHOP, 0) {
         desk.read(&bench, SLIP);
         desk.write(&bench, SLIP, received);
@@ -50,13 +48,10 @@ fn first_bench<O: ClassOrder + Drop, V: Value + InWords, R: LocalRule + Drop>(
     }
 }
 
-fn second_bench<O: ClassOrder + Drop, V: Value + InWords, R: LocalRule + Drop>(
+fn second_bench<O: ClassOrder + Drop, V: Value + Display, R: LocalRule + Drop>(
     desk: &mut Desk<'_, O, V, R>,
     reflashed: V,
-)
-    requires lent { Served (O.ClassOrder) (V.Value) (R.LocalRule) desk.old }
-    ensures lent { Served (O.ClassOrder) (V.Value) (R.LocalRule) desk.new }
-{
+) {
     if let Some(bench) = desk.begin::<Update>("the second bench", WORKSHOP, 1) {
         desk.read(&bench, SLIP);
         desk.write(&bench, SLIP, reflashed);
@@ -64,12 +59,9 @@ fn second_bench<O: ClassOrder + Drop, V: Value + InWords, R: LocalRule + Drop>(
     }
 }
 
-fn report<O: ClassOrder + Drop, V: Value + InWords, R: LocalRule + Drop>(
+fn report<O: ClassOrder + Drop, V: Value + Display, R: LocalRule + Drop>(
     desk: &mut Desk<'_, O, V, R>,
-)
-    requires lent { Served (O.ClassOrder) (V.Value) (R.LocalRule) desk.old }
-    ensures lent { Served (O.ClassOrder) (V.Value) (R.LocalRule) desk.new }
-{
+) {
     desk.tell("A report reads the slip as it was declared.");
     if let Some(report) = desk.begin::<Long>("the report", WORKSHOP, 2) {
         desk.read(&report, SLIP);
@@ -77,13 +69,10 @@ fn report<O: ClassOrder + Drop, V: Value + InWords, R: LocalRule + Drop>(
     }
 }
 
-fn third_bench<O: ClassOrder + Drop, V: Value + InWords, R: LocalRule + Drop>(
+fn third_bench<O: ClassOrder + Drop, V: Value + Display, R: LocalRule + Drop>(
     desk: &mut Desk<'_, O, V, R>,
     received: V,
-)
-    requires lent { Served (O.ClassOrder) (V.Value) (R.LocalRule) desk.old }
-    ensures lent { Served (O.ClassOrder) (V.Value) (R.LocalRule) desk.new }
-{
+) {
     desk.tell("A third bench takes the slip up, and leaves it.");
     if let Some(bench) = desk.begin::<Update>("the third bench", WORKSHOP, 3) {
         desk.write(&bench, SLIP, received);

@@ -26,19 +26,17 @@ impl<K: JobKind> Ticket<K> {
         class: u8,
         bay: u8,
     ) -> Result<Ticket<K>, JobFault>
-        ensures reply { done_reply (began result) ≡ (defined (O.ClassOrder) (V.Value) (R.LocalRule) register.old memory.now (to_begin class bay K.JobKind.number)).reply }
-        ensures state { LeadsTo (O.ClassOrder) (V.Value) (R.LocalRule) register.old memory.now (to_begin class bay K.JobKind.number) register.new memory.now }
-        ensures laws { Lawfully (O.ClassOrder) (V.Value) (R.LocalRule) register.old memory.now (to_begin class bay K.JobKind.number) (done_reply (began result)) register.new memory.now }
+        ensures reply { done_reply (began result) ≡ (defined (O.ClassOrder) (V.Value) (R.LocalRule) register.old memory.now (to_begin class bay K.JobKind.NUMBER)).reply }
+        ensures state { LeadsTo (O.ClassOrder) (V.Value) (R.LocalRule) register.old memory.now (to_begin class bay K.JobKind.NUMBER) register.new memory.now }
+        ensures laws { Lawfully (O.ClassOrder) (V.Value) (R.LocalRule) register.old memory.now (to_begin class bay K.JobKind.NUMBER) (done_reply (began result)) register.new memory.now }
         ensures ticket { HandedOut class bay result }
     {
-        match register.begin(memory, class, bay, K::number()) {
-            Ok(()) => Ok(Ticket {
-                class,
-                bay,
-                kind: PhantomData,
-            }),
-            Err(fault) => Err(fault),
-        }
+        register.begin(memory, class, bay, K::NUMBER)?;
+        Ok(Ticket {
+            class,
+            bay,
+            kind: PhantomData,
+        })
     }
 
     // Reads an item of the own class or of a class below it, for the ticket's job.
@@ -102,6 +100,7 @@ impl<K: JobKind> Ticket<K> {
             bay: _,
             kind: _,
         } = self;
+        // `reply.map_err(EndFault::Refused)` was tried here and refused: its result names the kind of ticket, and its arguments do not.
         match reply {
             Ok(()) => Ok(()),
             Err(fault) => Err(EndFault::Refused(fault)),

@@ -1,10 +1,5 @@
 // The kinds of jobs as types, so that the compiler knows which calls a ticket allows.
-ghost use Rattle.std.specs.Prelude.{◌≡◌, ℕ};
-
-// The kinds of jobs by their numbers.
-const UPDATE_NUMBER: u8 = 0;
-
-const LONG_NUMBER: u8 = 1;
+ghost use Rattle.std.specs.Prelude.{ℕ};
 
 // No other module can name this trait, so there are no kinds but the two below.
 mod sealed {
@@ -13,10 +8,9 @@ mod sealed {
 
 pub trait JobKind: sealed::Sealed {
     // The number by which a begin names the kind.
-    ghost number: { ℕ };
+    ghost NUMBER: { ℕ };
 
-    fn number() -> u8
-        ensures { result ≡ number };
+    const NUMBER: u8;
 }
 
 // An update job, a read-write transaction.
@@ -30,17 +24,13 @@ impl sealed::Sealed for Update {}
 impl sealed::Sealed for Long {}
 
 impl JobKind for Update {
-    ghost number = { 0 };
+    ghost NUMBER = { 0 };
 
-    fn number() -> u8 {
-        UPDATE_NUMBER
-    }
+    const NUMBER: u8 = 0;
 }
 
 impl JobKind for Long {
-    ghost number = { 1 };
+    ghost NUMBER = { 1 };
 
-    fn number() -> u8 {
-        LONG_NUMBER
-    }
+    const NUMBER: u8 = 1;
 }
