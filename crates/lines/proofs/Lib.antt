@@ -13,7 +13,6 @@ pub mod PlannedClasses
 pub mod OpenedRegisters
 pub mod PlannedRegisters
 pub mod WithinNeeds
-pub mod EncodedReplies
 pub mod Refusals
 pub mod ServedCalls
 pub mod OwnWrites

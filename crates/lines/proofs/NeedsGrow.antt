@@ -33,7 +33,7 @@ module _ {V : Type 0} (v : ValueGhosts V) (serving : Setting V → State V → P
   serves_on AddClass frame = keeps s
   serves_on Start frame = keeps s
   serves_on (Job job) frame =
-      elim (right_length v.width job frame) as (λ b. NeedsWithin (serving S s) (cond b (called_answer v serving noted room S s (call_of v room S job frame)) (refuse (serving S s) WrongLength)).next) [ true ↦ keeps _ | false ↦ keeps s ]
+      elim (right_length v.WIDTH job frame) as (λ b. NeedsWithin (serving S s) (cond b (called_answer v serving noted room S s (call_of v room S job frame)) (refuse (serving S s) WrongLength)).next) [ true ↦ keeps _ | false ↦ keeps s ]
 
 in_phase_on : (rooms : Rooms) (p : Phase) (operation : Operation) (frame : List ℕ) → NeedsWithin p (in_phase rooms p operation frame).next
 in_phase_on rooms opening operation frame = record { words = from_nothing _; slips = from_nothing _ }

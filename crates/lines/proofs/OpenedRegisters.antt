@@ -4,6 +4,7 @@ use mathlib.Core.Path.{fun_ext}
 use Rattle.std.proofs.lemmas.Bool.{ltb-false}
 use Rattle.cells.specs.declared.value.Value.{Ghosts as ValueGhosts}
 use Rattle.orders.specs.declared.class_order.ClassOrder.{Ghosts as OrderGhosts}
+use Rattle.rules.specs.declared.access.Access.TheVariants.{Read, Write}
 use Rattle.rules.specs.declared.local_rule.LocalRule.{Ghosts as RuleGhosts}
 use Rattle.laws.specs.Setting.{Setting, Lawful}
 use Rattle.laws.specs.State.{fresh_state}
@@ -42,8 +43,8 @@ module _ {O V R : Type 0} (o : OrderGhosts O) (v : ValueGhosts V) (r : RuleGhost
         top = top;
         items = items;
         start = v.starting;
-        reading = r.reading;
-        writing = r.writing;
+        reading = r.policy Read;
+        writing = r.policy Write;
         variant = variant;
       } in
       ap₂ (λ (a : O) (top : ℕ). made a top (λ c. get_or x.counts.items c 0) x.variant) w.order_is w.clock_shows.0

@@ -2,8 +2,6 @@
 use Rattle.std.proofs.Common.{◌≡◌, ℕ, ◌<◌, Bool, true, false, ◌&&◌, ltb, List, [], ◌∷◌, Some, None, Option, sym, refl, ap, ◌∙◌, subst, arith}
 use Rattle.std.proofs.lemmas.Bool.{ltb-true, and_parts, cond-true}
 use Rattle.cells.specs.declared.value.Value.{Ghosts as ValueGhosts}
-use Rattle.rules.specs.declared.answer.Answer.{Answer}
-use Rattle.rules.specs.declared.answer.Answer.TheVariants.{Yes, No}
 use Rattle.laws.specs.Setting.{Setting, dominates, bay_count}
 use Rattle.laws.specs.State.{put, State, Class, Cell, Bay, Pending, find, pend, free, closed, running, updating, reading}
 use Rattle.laws.specs.Calls.{Call, by, read, write, got, refused, unknown}
@@ -33,10 +31,10 @@ module _ {V : Type 0} (v : ValueGhosts V) (S : Setting V) (t : ℕ) (cells_of : 
   was_written w (running (reading r)) e = other_bytes 14 [] (omega arith) e
   was_written w (running (updating down p)) e = at_item (ltb i (S.items c)) refl w e
     where
-      at_claim : (is : ltb i (S.items c) ≡ true) (x : V) (a : Answer) → reply_bytes v (claimed a (writes_pending S t cells_of c k b down p i x) k).reply ≡ 0 ∷ []
+      at_claim : (is : ltb i (S.items c) ≡ true) (x : V) (a : Option ℕ) → reply_bytes v (claimed a (writes_pending S t cells_of c k b down p i x) k).reply ≡ 0 ∷ []
           → Written (Some x) (claimed a (writes_pending S t cells_of c k b down p i x) k)
-      at_claim is x Yes f = record { value = x; down = down; before = p; came = refl; is_item = is; outcome = refl }
-      at_claim is x (No y) f = other_bytes 17 (y ∷ []) (omega arith) f
+      at_claim is x None f = record { value = x; down = down; before = p; came = refl; is_item = is; outcome = refl }
+      at_claim is x (Some y) f = other_bytes 17 (y ∷ []) (omega arith) f
 
       at_room : (is : ltb i (S.items c) ≡ true) (x : V) (q : Bool) → no_room i p ≡ q → reply_bytes v (writes_value S t cells_of c k b down p i (Some x)).reply ≡ 0 ∷ []
           → Written (Some x) (writes_value S t cells_of c k b down p i (Some x))

@@ -34,44 +34,43 @@ as_many_items p = said_length p.count p.records (omega (arith, p.full, p.few, p.
 
 -- A plan and a frame: the number of a class, its place in the order, and its item count n.
 module _ (p : Plan) (class high low n : ℕ) where
-  -- The item counts of the first k classes, with the new record at its place.
-  abbrev pub counts_with : ℕ → List ℕ
-  counts_with k = said (take k (set p.records class (record { items = n })))
+  -- The item counts with the new record at its place.
+  abbrev pub counts_with : List ℕ
+  counts_with = said (take (class + 1) (set p.records class (record { items = n })))
 
   pub wrong_number : (class ≡ p.count → ⊥) → Err OutOfRange ≡ with_class (draft_of p) class high low n
   wrong_number h = rw (ne_eqb class (length (draft_of p).items) (λ e. h (e ∙ as_many_items p)))
 
-  module _ (next : class ≡ p.count) (less : p.count < p.wanted) (k : ℕ) (all : k ≡ class + 1) where
+  module _ (next : class ≡ p.count) (less : p.count < p.wanted) where
     is_next : class ≡ length (draft_of p).items
     is_next = next ∙ sym (as_many_items p)
 
     few : length (draft_of p).items < 16
     few = omega (arith, as_many_items p, p.few)
 
-    pub one_count_more : counts_with k ≡ (draft_of p).items ++ (n ∷ [])
+    pub one_count_more : counts_with ≡ (draft_of p).items ++ (n ∷ [])
     one_count_more =
-        ap counts_with all
-        ∙ said_push class p.records (record { items = n }) (omega (arith, p.full, p.few))
+        said_push class p.records (record { items = n }) (omega (arith, p.full, p.few))
         ∙ ap (λ j. said (take j p.records) ++ (n ∷ [])) next
 
-    pub wrong_count : (e : SetUpFault) → Err e ≡ checked_counts (counts_with k) → Err (fault_of_setup e) ≡ with_class (draft_of p) class high low n
+    pub wrong_count : (e : SetUpFault) → Err e ≡ checked_counts counts_with → Err (fault_of_setup e) ≡ with_class (draft_of p) class high low n
     wrong_count e h =
         let r = refused_count (draft_of p).items n few p.few_items e (h ∙ ap checked_counts one_count_more) in
         rw (eq-eqb class (length (draft_of p).items) is_next, r.0) (ap Err r.1)
 
-    module _ (table : List ℕ) (h : Ok table ≡ checked_counts (counts_with k)) where
+    module _ (table : List ℕ) (h : Ok table ≡ checked_counts counts_with) where
       in_range : (leb n 64 && leb (sum (draft_of p).items + n) 256) ≡ true
       in_range = good_count (draft_of p).items n few p.few_items table (h ∙ ap checked_counts one_count_more)
 
       pub right_count : with_classes (draft_of p) n (one_more (draft_of p).classes high low) ≡ with_class (draft_of p) class high low n
       right_count = rw (eq-eqb class (length (draft_of p).items) is_next, in_range)
 
-      pub still_few_items : each_at_most 64 (counts_with k) ≡ true
+      pub still_few_items : each_at_most 64 counts_with ≡ true
       still_few_items =
           ap (each_at_most 64) one_count_more ∙ each_push 64 (draft_of p).items n p.few_items
           ∙ (and_parts (leb n 64) (leb (sum (draft_of p).items + n) 256) in_range).0
 
-      pub still_few_in_all : sum (counts_with k) ≤ 256
+      pub still_few_in_all : sum counts_with ≤ 256
       still_few_in_all =
-          let s : sum (counts_with k) ≡ sum (draft_of p).items + n = ap sum one_count_more ∙ sum_by_push (λ (x : ℕ). x) (draft_of p).items n in
+          let s : sum counts_with ≡ sum (draft_of p).items + n = ap sum one_count_more ∙ sum_by_push (λ (x : ℕ). x) (draft_of p).items n in
           omega (arith, leb-true (sum (draft_of p).items + n) 256 (and_parts (leb n 64) (leb (sum (draft_of p).items + n) 256) in_range).1)

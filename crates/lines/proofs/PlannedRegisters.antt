@@ -10,7 +10,7 @@ use Rattle.orders.specs.contracts.chosen_order.ChosenOrderClassOrder.TheImpl.{gh
 use Rattle.orders.specs.declared.chosen_order.ChosenOrder.{ChosenOrder}
 use Rattle.orders.specs.declared.chosen_order.ChosenOrder.TheVariants.{Drawn, Labelled}
 use Rattle.rules.specs.Policies.{chosen}
-use Rattle.rules.specs.contracts.chosen_rule.ChosenRuleLocalRule.TheImpl.{ghosts as rules}
+use Rattle.rules.specs.ChosenRules.{chosen_rule as rules}
 use Rattle.rules.specs.declared.access.Access.TheVariants.{Read, Write}
 use Rattle.laws.specs.Setting.{Setting}
 use Rattle.jobs.specs.Fill.{fill_reply}
@@ -27,6 +27,7 @@ use Rattle.lines.specs.Plans.{draft_of}
 use Rattle.lines.specs.declared.line_fault.LineFault.{LineFault}
 use Rattle.lines.specs.declared.line_fault.LineFault.TheVariants.{OutOfRange, Refused}
 use Rattle.lines.specs.declared.plan.Plan.{Plan}
+use Rattle.lines.specs.declared.planned_order.PlannedOrder.TheVariants.{Classes as ClassesSoFar}
 use Rattle.lines.proofs.PlannedItems.{checked}
 use Rattle.lines.proofs.PlannedClasses.{as_many_items}
 
@@ -55,23 +56,22 @@ module _ {V : Type 0} (v : ValueGhosts V) where
   by_classes items variant (Drawn s) = refl
   by_classes items variant (Labelled s) = refl
 
-module _ (p : Plan) (order : ChosenOrder) (is : p.order ≡ Some order) (items : List ℕ) (are : items ≡ (draft_of p).items) where
+module _ (p : Plan) (order : ChosenOrder) (is : p.order ≡ ClassesSoFar order) where
   classes_are : classes_in order ≡ (draft_of p).classes
-  classes_are = sym (ap (classes_so_far p.kind) is)
+  classes_are = sym (ap classes_so_far is)
 
   many : chosen_classes order ≡ length (draft_of p).items
   many = sym (count_is order) ∙ ap class_count classes_are ∙ p.ordered ∙ sym (as_many_items p)
 
-  pub plan_in_range : InRange (chosen_classes order) items
+  pub plan_in_range : InRange (chosen_classes order) (draft_of p).items
   plan_in_range =
-      rw are (rw (eq-eqb (length (draft_of p).items) (chosen_classes order) (sym many))
-      (checked (draft_of p).items (omega (arith, as_many_items p, p.so_far, p.few)) p.few_items p.few_in_all))
+      rw (eq-eqb (length (draft_of p).items) (chosen_classes order) (sym many))
+      (checked (draft_of p).items (omega (arith, as_many_items p, p.so_far, p.few)) p.few_items p.few_in_all)
 
-  pub plan_setting : {V : Type 0} (v : ValueGhosts V) (variant : ℕ) → set_up_with orders v rules order items variant ≡ drafted v (draft_of p) variant
+  pub plan_setting : {V : Type 0} (v : ValueGhosts V) (variant : ℕ) → set_up_with orders v rules order (draft_of p).items variant ≡ drafted v (draft_of p) variant
   unfolding with_these
   plan_setting v variant =
-      ap (λ (items : List ℕ). set_up_with orders v rules order items variant) are
-      ∙ by_classes v (draft_of p).items variant order
+      by_classes v (draft_of p).items variant order
       ∙ ap₂ (with_these v (draft_of p).items variant) many classes_are
 
 -- What filling replies, as it is passed on: nothing, or the fault of a line.

@@ -1,7 +1,7 @@
 -- A value that a frame writes is told again byte for byte.
-use Rattle.std.proofs.Common.{◌≡◌, ℕ, ◌<◌, Bool, true, List, [], ◌∷◌, drop, Some, sym, ap, ◌∙◌, subst, arith}
-use Rattle.std.specs.List.{AllByRecursion}
-use Rattle.std.proofs.ByRecursion.{All-drop}
+use Rattle.std.proofs.Common.{◌≡◌, ℕ, ◌<◌, Bool, true, false, cond, List, [], ◌∷◌, drop, Some, sym, ap, ◌∙◌, subst, arith}
+use Rattle.std.specs.Prelude.{All}
+use Rattle.std.proofs.lemmas.List.Elements.{All-drop}
 use Rattle.cells.specs.declared.value.Value.{Ghosts as ValueGhosts}
 use Rattle.orders.specs.declared.class_order.ClassOrder.{Ghosts as OrderGhosts}
 use Rattle.rules.specs.declared.local_rule.LocalRule.{Ghosts as RuleGhosts}
@@ -14,10 +14,13 @@ use Rattle.jobs.specs.Represents.{setting, state, enough, defined, LeadsTo}
 use Rattle.jobs.specs.declared.memory.Memory.{Memory}
 use Rattle.jobs.specs.declared.register.Register.{Register}
 use Rattle.lines.specs.Operations.{byte}
+use Rattle.lines.specs.JobFrames.{right_length, FrameServed}
+use Rattle.lines.specs.LineFaults.{fault_bytes}
 use Rattle.lines.specs.JobLines.{request_of, Room, room_of, suffices}
 use Rattle.lines.specs.Replies.{reply_bytes}
 use Rattle.lines.specs.Needs.{ChangedWithin}
 use Rattle.lines.specs.ReadBack.{own_read, ReadsBack}
+use Rattle.lines.specs.declared.line_fault.LineFault.TheVariants.{WrongLength}
 use Rattle.lines.specs.declared.operation.JobOperation.{JobOperation}
 use Rattle.lines.specs.declared.operation.JobOperation.TheVariants.{Begin, Read, Write, Commit, GiveUp, Tick}
 use Rattle.lines.proofs.OwnWrites.{reads_own_write}
@@ -25,7 +28,7 @@ use Rattle.lines.proofs.OwnWrites.{reads_own_write}
 -- Bytes -----------------------------------------------------------------------------------------------------------
 
 abbrev pub Bytes : List ℕ → Type 0
-Bytes = AllByRecursion (λ b. b < 256)
+Bytes = All (λ b. b < 256)
 
 module _ {V : Type 0} (v : ValueGhosts V) (encodes : (bytes : List ℕ) (x : V) → Bytes bytes → v.decoding bytes ≡ Some x → v.encoding x ≡ bytes) where
   -- The frame writes this value: it has its bytes.
@@ -62,14 +65,20 @@ module _ {V : Type 0} (v : ValueGhosts V) (encodes : (bytes : List ℕ) (x : V) 
         ∙ found.2 in
         ap (reply_bytes v) is ∙ told_as_written frame h found.0 found.1
 
-    pub reads_back : (job : JobOperation) (frame answer : List ℕ) → Bytes frame → answer ≡ reply_bytes v (defined o v r x m (request_of v job frame)).reply
-        → LeadsTo o v r x m (request_of v job frame) x' m' → ReadsBack o v r job frame answer x' m'
-    reads_back job frame answer h e leads = record {
+    -- A frame of another length gets another answer than an accepted one.
+    pub reads_back : (job : JobOperation) (frame answer : List ℕ) → Bytes frame → FrameServed o v r x m job frame answer x' m' → ReadsBack o v r job frame answer x' m'
+    reads_back job frame answer h served = record {
       same_bytes = same_bytes job frame h;
-      own = λ is accepted.
-          own_told frame h (subst (λ (j : JobOperation). LeadsTo o v r x m (request_of v j frame) x' m') is leads)
-          (subst (λ (j : JobOperation). reply_bytes v (defined o v r x m (request_of v j frame)).reply ≡ 0 ∷ []) is (sym e ∙ accepted));
+      own = λ is accepted. go is (right_length v.WIDTH job frame) served.reply served.state accepted;
     }
+      where
+        go : job ≡ Write → (right : Bool) → answer ≡ cond right (reply_bytes v (defined o v r x m (request_of v job frame)).reply) (fault_bytes WrongLength)
+            → state o v r x' m' ≡ cond right (defined o v r x m (request_of v job frame)).next (state o v r x m) → answer ≡ 0 ∷ []
+            → reply_bytes v (defined o v r x' m' (request_of v Read (own_read frame))).reply ≡ 0 ∷ drop 4 frame
+        go is true e f accepted =
+            own_told frame h (subst (λ (j : JobOperation). LeadsTo o v r x m (request_of v j frame) x' m') is (served.setting_kept, f))
+            (subst (λ (j : JobOperation). reply_bytes v (defined o v r x m (request_of v j frame)).reply ≡ 0 ∷ []) is (sym e ∙ accepted))
+        go is false e f accepted = let z : ◌≡◌ {A = ℕ} 4 0 = cc in absurd (omega arith)
 
 -- Memory of which only a part has changed is as large as before.
 pub same_room : {V R : Type 0} (room : Room) (m m' : Memory V R) → ChangedWithin room m m' → room_of m' ≡ room_of m

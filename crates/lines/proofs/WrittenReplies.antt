@@ -1,23 +1,13 @@
 -- A reply that was written over the front of the output.
-use Rattle.std.proofs.Common.{◌≡◌, ℕ, ◌-◌, ◌≤◌, Bool, true, false, cond, List, [], ◌∷◌, ◌++◌, length, take, drop, Some, None, sym, ap, ◌∙◌, arith}
-use Rattle.std.proofs.lemmas.List.{length-append, length-take-le}
+use Rattle.std.proofs.Common.{◌≡◌, ℕ, Bool, true, false, cond, List, [], ◌∷◌, ◌++◌, length, drop, Some, None, sym, ap, ◌∙◌, arith}
+use Rattle.std.proofs.lemmas.List.{length-append}
 use Rattle.frames.specs.Digits.{digits}
 use Rattle.frames.specs.Writing.{encoded_line, line_size, has_room, write_reply, written_over}
 use Rattle.frames.proofs.DigitValues.{length_digits}
-use Rattle.lines.specs.Replies.{held_bytes}
-use Rattle.lines.specs.declared.reply_bytes.ReplyBytes.{ReplyBytes}
 
 -- How many bytes a line takes up.
 pub length_line : (bytes : List ℕ) → length (encoded_line bytes) ≡ line_size bytes
 length_line bytes = omega (arith, length-append (digits bytes) (10 ∷ []), length_digits bytes)
-
--- A part from the start.
-pub from_start : (n : ℕ) (xs : List ℕ) → take (n - 0) xs ≡ take n xs
-from_start n xs = ap (λ (k : ℕ). take k xs) (omega arith)
-
--- A reply has at most seven bytes.
-pub held_few : (y : ReplyBytes) → length (held_bytes y) ≤ 7
-held_few y = omega (arith, length-take-le y.len y.bytes (omega (arith, y.full, y.short)), y.short)
 
 -- Where the line fits, it is written.
 pub record Written (bytes out : List ℕ) (n : ℕ) (out' : List ℕ) : Type 0 where

@@ -1,15 +1,34 @@
 -- What a session does with a line, against what the definition answers.
-use Rattle.std.specs.Prelude.{◌≡◌, [], ◌∷◌}
-use Rattle.lines.specs.Phases.{Answer}
+use Rattle.std.specs.Prelude.{◌≡◌, ℕ, List, [], ◌∷◌, Ok, Err, Result}
+use Rattle.lines.specs.LineFaults.{fault_bytes}
+use Rattle.lines.specs.Phases.{Phase, Answer}
 use Rattle.lines.specs.SessionLaws.{KeepsSessionLaws}
 use Rattle.lines.specs.Supplies.{ChangedFor}
-use Rattle.lines.specs.Sessions.{phase_of}
-use Rattle.lines.specs.declared.session.Session.{Session}
+use Rattle.lines.specs.Sessions.{at_stage}
+use Rattle.lines.specs.declared.line_fault.LineFault.{LineFault}
+use Rattle.lines.specs.declared.stage.Stage.{Stage}
 use Rattle.lines.specs.declared.supplied.Supplied.{Supplied}
 
--- From session s and memory m to s' and m': the session is in the phase of the answer, at most what its register needs has changed,
+-- From phase p and memory m to p' and m': the phase is that of the answer, at most what its register needs has changed,
 -- and the laws are kept.
-pub record Leaves (answer : Answer) (s : Session) (m : Supplied) (s' : Session) (m' : Supplied) : Type 0 where
-  pub state : phase_of s' m' ≡ answer.next
+pub record Leaves (answer : Answer) (p : Phase) (m : Supplied) (p' : Phase) (m' : Supplied) : Type 0 where
+  pub state : p' ≡ answer.next
   pub memory : ChangedFor answer.next m m'
-  pub laws : KeepsSessionLaws (phase_of s m) (answer.event ∷ []) answer.next
+  pub laws : KeepsSessionLaws p (answer.event ∷ []) answer.next
+
+-- And these bytes are replied: all that the answer asks.
+pub record Meets (p : Phase) (m : Supplied) (answer : Answer) (bytes : List ℕ) (p' : Phase) (m' : Supplied) : Type 0 where
+  pub reply : bytes ≡ answer.reply
+  pub leaves : Leaves answer p m p' m'
+
+-- A frame of set-up leads to the next stage and has nothing more to tell, or it is refused.
+abbrev pub set_up_told : Result Stage LineFault → List ℕ
+set_up_told (Ok s) = 0 ∷ []
+set_up_told (Err e) = fault_bytes e
+
+abbrev pub phase_after : Phase → Result Stage LineFault → Supplied → Phase
+phase_after p (Ok s) m = at_stage s m
+phase_after p (Err e) m = p
+
+abbrev pub SetUpAnswered : Phase → Supplied → Answer → Result Stage LineFault → Supplied → Type 0
+SetUpAnswered p m answer r m' = Meets p m answer (set_up_told r) (phase_after p r m') m'

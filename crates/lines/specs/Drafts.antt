@@ -14,10 +14,10 @@ use Rattle.orders.specs.declared.chosen_order.ChosenOrder.TheVariants.{Drawn, La
 use Rattle.rules.specs.Policies.{chosen}
 use Rattle.rules.specs.declared.access.Access.TheVariants.{Read, Write}
 use Rattle.laws.specs.Setting.{Setting}
+use Rattle.lines.specs.Kinds.{order_kind, value_kind}
 use Rattle.lines.specs.declared.kinds.OrderKind.{OrderKind}
 use Rattle.lines.specs.declared.kinds.OrderKind.TheVariants.{Drawn as DrawnKind, Labelled as LabelledKind}
 use Rattle.lines.specs.declared.kinds.ValueKind.{ValueKind}
-use Rattle.lines.specs.declared.kinds.ValueKind.TheVariants.{Words, Slips}
 use Rattle.lines.specs.declared.line_fault.LineFault.{LineFault}
 use Rattle.lines.specs.declared.line_fault.LineFault.TheVariants.{OutOfRange, Unfit}
 
@@ -63,13 +63,6 @@ pub record Draft : Type 0 where
   pub wanted : ℕ
   pub classes : Classes
   pub items : List ℕ
-
--- Kinds by their numbers.
-abbrev pub order_kind : ℕ → OrderKind
-order_kind n = cond (n == 0) DrawnKind LabelledKind
-
-abbrev pub value_kind : ℕ → ValueKind
-value_kind n = cond (n == 0) Words Slips
 
 -- The first frame: the kind of order, the kind of value, the number of classes.
 abbrev pub chosen_draft : ℕ → ℕ → ℕ → Result Draft LineFault

@@ -3,6 +3,7 @@ use Rattle.std.specs.Prelude.{◌≡◌, ℕ, List, Ok, Err, Result, slice_index
 use Rattle.sets.specs.Below.{greatest_below}
 use Rattle.cells.specs.declared.value.Value.{Ghosts as ValueGhosts}
 use Rattle.orders.specs.declared.class_order.ClassOrder.{Ghosts as OrderGhosts}
+use Rattle.rules.specs.declared.access.Access.TheVariants.{Read, Write}
 use Rattle.rules.specs.declared.local_rule.LocalRule.{Ghosts as RuleGhosts}
 use Rattle.laws.specs.Setting.{Setting, Lawful}
 use Rattle.laws.specs.State.{fresh_state}
@@ -27,8 +28,8 @@ module _ {O V R : Type 0} (o : OrderGhosts O) (v : ValueGhosts V) (r : RuleGhost
     top = greatest_below (o.classes order) (o.grade order);
     items = λ c. slice_index items c;
     start = v.starting;
-    reading = r.reading;
-    writing = r.writing;
+    reading = r.policy Read;
+    writing = r.policy Write;
     variant = variant;
   }
 

@@ -1,10 +1,13 @@
 pub mod Operations
 pub mod LineFaults
+pub mod Words
+pub mod ToldFaults
 pub mod Replies
 pub mod JobLines
 pub mod Needs
 pub mod JobFrames
 pub mod ReadBack
+pub mod Kinds
 pub mod Drafts
 pub mod PlanParts
 pub mod Plans

@@ -19,7 +19,7 @@ pub record LineAnswered (s : Session) (m : Supplied) (input out text : List ℕ)
   pub written : served.written ≡ length (encoded_line (answered (rooms_of m) (phase_of s m) text).reply)
   pub few : served.written ≤ reply_room
   pub output : out' ≡ encoded_line (answered (rooms_of m) (phase_of s m) text).reply ++ drop served.written out
-  pub leaves : Leaves (answered (rooms_of m) (phase_of s m) text) s m s' m'
+  pub leaves : Leaves (answered (rooms_of m) (phase_of s m) text) (phase_of s m) m (phase_of s' m') m'
 
 -- Nothing is done where there is no line, or no room for the longest reply.
 pub record NothingDone (s : Session) (m : Supplied) (input out : List ℕ) (s' : Session) (m' : Supplied) (out' : List ℕ) : Type 0 where

@@ -3,8 +3,7 @@ use Rattle.std.specs.Prelude.{ℕ, cond, Some, None, Ok, Err, Option, Result, na
 use Rattle.cells.specs.declared.value.Value.{Ghosts as ValueGhosts}
 use Rattle.orders.specs.contracts.chosen_order.ChosenOrderClassOrder.TheImpl.{ghosts as orders}
 use Rattle.orders.specs.declared.chosen_order.ChosenOrder.{ChosenOrder}
-use Rattle.rules.specs.contracts.chosen_rule.ChosenRuleLocalRule.TheImpl.{ghosts as rules}
-use Rattle.rules.specs.declared.chosen_rule.ChosenRule.{ChosenRule}
+use Rattle.rules.specs.ChosenRules.{ChosenRule, chosen_rule as rules}
 use Rattle.laws.specs.Setting.{Setting}
 use Rattle.register_parts.specs.declared.job_fault.JobFault.TheVariants.{TooLittleMemory}
 use Rattle.jobs.specs.declared.memory.Memory.{Memory}

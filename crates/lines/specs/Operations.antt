@@ -1,7 +1,5 @@
 -- What a frame asks for, by its first byte, and how many bytes it has.
-use Rattle.std.specs.Prelude.{ℕ, ◌+◌, cond, List, Some, None, Ok, Err, Option, Result, ◌==◌, slice_index}
-use Rattle.lines.specs.declared.line_fault.LineFault.{LineFault}
-use Rattle.lines.specs.declared.line_fault.LineFault.TheVariants.{WrongLength}
+use Rattle.std.specs.Prelude.{ℕ, ◌+◌, cond, List, Some, None, Option, ◌==◌, slice_index}
 use Rattle.lines.specs.declared.operation.Operation.{Operation}
 use Rattle.lines.specs.declared.operation.Operation.TheVariants.{Choose, AddClass, Start, Job}
 use Rattle.lines.specs.declared.operation.JobOperation.{JobOperation}
@@ -36,7 +34,3 @@ frame_length width Choose = 4
 frame_length width AddClass = 5
 frame_length width Start = 2
 frame_length width (Job job) = job_frame_length width job
-
--- Only a frame of the right length passes.
-abbrev pub length_check : ℕ → Operation → ℕ → Result (Unit {0}) LineFault
-length_check width operation n = cond (n == frame_length width operation) (Ok tt) (Err WrongLength)

@@ -114,7 +114,7 @@ module _ {V : Type 0} (v : ValueGhosts V) (serving : Setting V → State V → P
   in_serving Choose frame = refuse (serving S s) OutOfOrder
   in_serving AddClass frame = refuse (serving S s) OutOfOrder
   in_serving Start frame = refuse (serving S s) OutOfOrder
-  in_serving (Job job) frame = sized v.width (Job job) frame (serving S s) (called_answer (call_of v room S job frame))
+  in_serving (Job job) frame = sized v.WIDTH (Job job) frame (serving S s) (called_answer (call_of v room S job frame))
 
 -- Lines ---------------------------------------------------------------------------------------------------------
 

@@ -10,7 +10,7 @@ abbrev pub draft_of : Plan → Draft
 draft_of p = record {
   values = p.values;
   wanted = p.wanted;
-  classes = classes_so_far p.kind p.order;
+  classes = classes_so_far p.order;
   items = said (take p.count p.records);
 }
 

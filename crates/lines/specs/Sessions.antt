@@ -3,7 +3,7 @@ use Rattle.cells.specs.contracts.word.U32Value.TheImpl.{ghosts as words}
 use Rattle.cells.specs.contracts.slip.SlipValue.TheImpl.{ghosts as slips}
 use Rattle.orders.specs.contracts.chosen_order.ChosenOrderClassOrder.TheImpl.{ghosts as orders}
 use Rattle.orders.specs.declared.chosen_order.ChosenOrder.{ChosenOrder}
-use Rattle.rules.specs.contracts.chosen_rule.ChosenRuleLocalRule.TheImpl.{ghosts as rules}
+use Rattle.rules.specs.ChosenRules.{chosen_rule as rules}
 use Rattle.jobs.specs.Represents.{setting, state}
 use Rattle.jobs.specs.declared.register.Register.{Register}
 use Rattle.lines.specs.Plans.{draft_of}
@@ -20,10 +20,10 @@ abbrev pub serving : ValueKind → Register ChosenOrder → Supplied → Phase
 serving Words x m = serving_words (setting orders words rules x) (state orders words rules x m.words)
 serving Slips x m = serving_slips (setting orders slips rules x) (state orders slips rules x m.slips)
 
-abbrev pub at_stage : Stage → Session → Supplied → Phase
-at_stage Opening s m = opening
-at_stage Planning s m = planning (draft_of s.plan)
-at_stage Serving s m = serving s.plan.values s.register m
+abbrev pub at_stage : Stage → Supplied → Phase
+at_stage Opening m = opening
+at_stage (Planning plan) m = planning (draft_of plan)
+at_stage (Serving values register) m = serving values register m
 
 abbrev pub phase_of : Session → Supplied → Phase
-phase_of s m = at_stage s.stage s m
+phase_of s m = at_stage s.stage m

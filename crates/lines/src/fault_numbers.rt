@@ -39,7 +39,7 @@ impl From<SetUpFault> for LineFault {
 }
 
 impl LineFault {
-    // The number that the station is told.
+    // The number that the station is told. A method, since the number leaves out the bay, so a `From` would lose it.
     pub fn number(&self) -> u8
         ensures { result ≡ fault_number self.now }
     {
@@ -69,13 +69,8 @@ impl LineFault {
         ensures { result ≡ raised_by self.now }
     {
         match self {
-            LineFault::Refused(fault) => {
-                if fault.raised_by_rule() {
-                    Part::Rule
-                } else {
-                    Part::Door
-                }
-            }
+            LineFault::Refused(fault) if fault.raised_by_rule() => Part::Rule,
+            LineFault::Refused(_) => Part::Door,
             _ => Part::Line,
         }
     }

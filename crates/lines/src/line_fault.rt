@@ -1,7 +1,7 @@
 // Why a line is refused.
 use jobs::job_fault::JobFault;
 
-#[derive(Clone, Copy)]
+#[derive(Clone, Copy, PartialEq, Eq, Debug)]
 pub enum LineFault {
     // Empty, an odd number of digits, too many, or another character.
     Malformed,
@@ -18,7 +18,7 @@ pub enum LineFault {
 }
 
 // The part that raised a fault.
-#[derive(Clone, Copy)]
+#[derive(Clone, Copy, PartialEq, Eq, Debug)]
 pub enum Part {
     Line,
     Door,

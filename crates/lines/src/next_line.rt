@@ -1,14 +1,11 @@
 // The first line of an input, answered.
 ghost use Rattle.lines.specs.NextLines.{NextLine};
 
-use crate::served::Served;
+use crate::served::{REPLY_ROOM, Served};
 use crate::session::Session;
 use crate::supplied::Supplied;
 use frames::first_line::{Line, first_line};
 use frames::write_line::write_line;
-
-// The longest reply, in digits and with its byte 10, has so many bytes.
-const REPLY_ROOM: usize = 15;
 
 impl Session {
     // Answers the first line of the input into the front of the output; nothing where there is no line, or no room for the longest reply.
@@ -24,8 +21,8 @@ impl Session {
             return None;
         }
         let Line { length, size } = first_line(input)?;
-        let reply = self.answer(supplied, &input[0..length]);
-        let written = write_line(output, &reply.bytes[0..reply.len])?;
+        let reply = self.answer(supplied, &input[..length]);
+        let written = write_line(output, &reply)?;
         Some(Served {
             taken: size,
             written,

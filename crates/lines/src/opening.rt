@@ -11,6 +11,7 @@ ghost use Rattle.lines.specs.Plans.{draft_of};
 
 use crate::line_fault::LineFault;
 use crate::plan::Plan;
+use crate::planned_order::PlannedOrder;
 use cells::value::Value;
 use jobs::class_setup::ClassSetup;
 use jobs::memory::Memory;
@@ -48,8 +49,10 @@ impl Plan {
         ensures reply { fault_in result ≡ opening_fault (room_of memory.old) (drafted (V.Value) (draft_of self) variant) variant }
         ensures state { OpenedIf (V.Value) (drafted (V.Value) (draft_of self) variant) memory.old result memory.new }
     {
-        let order = self.order.unwrap();
-        let records = &self.records[0..self.count as usize];
+        let PlannedOrder::Classes(order) = self.order else {
+            unreachable!()
+        };
+        let records = &self.records[..self.count as usize];
         let register = open_register(order, records, variant, memory)?;
         Ok(register)
     }

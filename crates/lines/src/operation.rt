@@ -1,5 +1,5 @@
 // What a frame asks for, by its first byte.
-#[derive(Clone, Copy)]
+#[derive(Clone, Copy, PartialEq, Eq, Debug)]
 pub enum JobOperation {
     Begin,
     Read,
@@ -9,7 +9,7 @@ pub enum JobOperation {
     Tick,
 }
 
-#[derive(Clone, Copy)]
+#[derive(Clone, Copy, PartialEq, Eq, Debug)]
 pub enum Operation {
     // Chooses the kind of order, the kind of value and the number of classes.
     Choose,

@@ -1,12 +1,12 @@
 // Set-up, frame by frame: the kinds are chosen, then class after class is added.
-ghost use Rattle.std.specs.Prelude.{◌≡◌, ◌<◌, not, length, nat_lt};
+ghost use Rattle.std.specs.Prelude.{◌≡◌, ◌<◌, not, length, nat_lt, slice_index};
 ghost use Rattle.lines.specs.Drafts.{chosen_draft, with_class};
 ghost use Rattle.lines.specs.Plans.{draft_of, draft_in, CompleteIf};
 
 use crate::kinds::{OrderKind, ValueKind};
 use crate::line_fault::LineFault;
 use crate::plan::Plan;
-use crate::plan_order::one_more_class;
+use crate::planned_order::PlannedOrder;
 use jobs::class_setup::ClassSetup;
 use orders::class_order::MAX_CLASSES;
 use register_parts::item_counts::ItemCounts;
@@ -16,39 +16,24 @@ impl Plan {
     pub(crate) fn choose(order: u8, values: u8, classes: u8) -> Result<Plan, LineFault>
         ensures reply { draft_in result ≡ chosen_draft order values classes }
     {
-        let kind = match order {
-            0 => OrderKind::Drawn,
-            1 => OrderKind::Labelled,
-            _ => return Err(LineFault::OutOfRange),
-        };
-        let values = match values {
-            0 => ValueKind::Words,
-            1 => ValueKind::Slips,
-            _ => return Err(LineFault::OutOfRange),
-        };
+        let kind = OrderKind::try_from(order)?;
+        let values = ValueKind::try_from(values)?;
         if classes == 0 || classes > MAX_CLASSES {
             return Err(LineFault::OutOfRange);
         }
         Ok(Plan {
             values,
-            kind,
             wanted: classes,
             count: 0,
-            order: None,
+            order: PlannedOrder::Empty(kind),
             records: [ClassSetup { items: 0 }; MAX_CLASSES as usize],
         })
     }
 
-    // The plan with the next class: its number, its place in the order in two bytes, and how many items it has.
-    pub(crate) fn with_class(
-        self,
-        class: u8,
-        high: u8,
-        low: u8,
-        items: u8,
-    ) -> Result<Plan, LineFault>
+    // The plan with the next class: its number, its place in the order, and how many items it has.
+    pub(crate) fn with_class(self, class: u8, place: [u8; 2], items: u8) -> Result<Plan, LineFault>
         requires { self.count < self.wanted }
-        ensures reply { draft_in result ≡ with_class (draft_of self) class high low items }
+        ensures reply { draft_in result ≡ with_class (draft_of self) class (slice_index place 0) (slice_index place 1) items }
     {
         if class != self.count {
             return Err(LineFault::OutOfRange);
@@ -57,14 +42,13 @@ impl Plan {
         let mut records = self.records;
         records[class as usize] = ClassSetup { items };
         // The register's own set-up judges the item counts.
-        let _ = ItemCounts::new(&records[0..count as usize])?;
-        let order = one_more_class(self.kind, self.order, high, low)?;
+        let _ = ItemCounts::new(&records[..count as usize])?;
+        let order = self.order.with_class(place)?;
         Ok(Plan {
             values: self.values,
-            kind: self.kind,
             wanted: self.wanted,
             count,
-            order: Some(order),
+            order: PlannedOrder::Classes(order),
             records,
         })
     }

@@ -2,59 +2,59 @@
 ghost use Rattle.std.specs.Prelude.{◌≡◌, [], ◌∷◌};
 ghost use Rattle.cells.specs.Encodings.{number_bytes};
 ghost use Rattle.lines.specs.LineFaults.{fault_bytes};
-ghost use Rattle.lines.specs.Replies.{held_bytes};
 
 use crate::line_fault::LineFault;
-use crate::reply_bytes::ReplyBytes;
+use arrayvec::ArrayVec;
 use cells::value::Value;
 use jobs::declaration::Declaration;
 
-impl ReplyBytes {
-    // The call is accepted, and has nothing more to tell.
-    pub(crate) fn done() -> ReplyBytes
-        ensures reply { held_bytes result ≡ 0 ∷ [] }
-    {
-        ReplyBytes {
-            bytes: [0; 7],
-            len: 1,
-        }
-    }
+// The longest reply is a slip that is read: 00 and six bytes.
+pub(crate) type ReplyBytes = ArrayVec<u8, 7>;
 
-    // A read is served this value.
-    pub(crate) fn value<V: Value>(value: V) -> ReplyBytes
-        ensures reply { held_bytes result ≡ 0 ∷ V.Value.encoding value }
-    {
-        let mut bytes = [0; 7];
-        let end = 1 + V::size();
-        let _ = value.write(&mut bytes[1..end]);
-        ReplyBytes { bytes, len: end }
-    }
+// No value takes more bytes.
+const MAX_WIDTH: usize = 6;
 
-    // A tick declares this version: its grade in one byte, its number in four, the high byte first.
-    pub(crate) fn declaration(tick: Declaration) -> ReplyBytes
-        ensures reply { held_bytes result ≡ 0 ∷ tick.grade ∷ number_bytes tick.number }
-    {
-        let [a, b, c, d] = tick.number.to_be_bytes();
-        ReplyBytes {
-            bytes: [0, tick.grade, a, b, c, d, 0],
-            len: 6,
-        }
-    }
+// The call is accepted, and has nothing more to tell.
+pub(crate) fn done() -> ReplyBytes
+    ensures reply { result.items ≡ 0 ∷ [] }
+{
+    let mut reply = ArrayVec::new();
+    reply.push(0);
+    reply
+}
 
-    // The line is refused: the number, and the bay that the fault names.
-    pub(crate) fn refusal(fault: LineFault) -> ReplyBytes
-        ensures reply { held_bytes result ≡ fault_bytes fault }
-    {
-        let number = fault.number();
-        match fault.named() {
-            None => ReplyBytes {
-                bytes: [number, 0, 0, 0, 0, 0, 0],
-                len: 1,
-            },
-            Some(bay) => ReplyBytes {
-                bytes: [number, bay, 0, 0, 0, 0, 0],
-                len: 2,
-            },
-        }
+// A read is served this value.
+pub(crate) fn value<V: Value>(value: V) -> ReplyBytes
+    ensures reply { result.items ≡ 0 ∷ V.Value.encoding value }
+{
+    let mut bytes = [0; MAX_WIDTH];
+    let encoded = &mut bytes[..V::WIDTH];
+    value.write(encoded).unwrap();
+    let mut reply = done();
+    reply.try_extend_from_slice(encoded).unwrap();
+    reply
+}
+
+// A tick declares this version: its grade in one byte, its number in four, the high byte first.
+pub(crate) fn declaration(tick: Declaration) -> ReplyBytes
+    ensures reply { result.items ≡ 0 ∷ tick.grade ∷ number_bytes tick.number }
+{
+    let mut reply = done();
+    reply.push(tick.grade);
+    reply
+        .try_extend_from_slice(&tick.number.to_be_bytes())
+        .unwrap();
+    reply
+}
+
+// The line is refused: the number, and the bay that the fault names.
+pub(crate) fn refusal(fault: LineFault) -> ReplyBytes
+    ensures reply { result.items ≡ fault_bytes fault }
+{
+    let mut reply = ArrayVec::new();
+    reply.push(fault.number());
+    if let Some(bay) = fault.named() {
+        reply.push(bay);
     }
+    reply
 }

@@ -17,6 +17,7 @@ impl Session {
         ensures memory { ChangedFor (phase_of self.new supplied.new) supplied.old supplied.new }
         ensures laws { KeepsSessionLaws (phase_of self.old supplied.old) (run (rooms_of supplied.old) (length output.old) (phase_of self.old supplied.old) (lines input.now)).events (phase_of self.new supplied.new) }
     {
+        // The counts are what the call returns: slices that were walked would have to be measured for them.
         let mut taken = 0;
         let mut written = 0;
         while let Some(line) = self.answer_line(supplied, &input[taken..], &mut output[written..]) {

@@ -1,69 +1,78 @@
 // The frames of jobs in words: who does what.
-use crate::kinds_chosen::KindsChosen;
-use crate::values::print_value;
+use crate::values::ValueTold;
+use lines::kinds::ValueKind;
 use lines::operation::JobOperation;
-use std::io;
+use register_parts::job_kind::JobKind;
+use std::fmt;
 
-// A write has so many bytes before those of its value.
-const WRITE_HEAD: usize = 4;
-
-fn print_begin(rt: HostRuntime, frame: &[u8]) -> io::Result<()> {
-    match frame {
-        [_, class, bay, 0] => print!(rt; "class {class}, bay {bay} begins an update job"),
-        [_, class, bay, 1] => print!(rt; "class {class}, bay {bay} begins a long job"),
-        [_, class, bay, kind] => print!(rt; "class {class}, bay {bay} begins a job of kind {kind}"),
-        _ => print!(rt; "begin, in {} bytes", frame.len()),
+fn write_begin<W: fmt::Write>(f: &mut fmt::Formatter<W>, frame: &[u8]) -> fmt::Result {
+    let [_, class, bay, kind] = frame else {
+        return write!(f, "begin, in {} bytes", frame.len());
+    };
+    write!(f, "class {class}, bay {bay} begins ")?;
+    match JobKind::try_from(*kind) {
+        Ok(JobKind::Update) => f.write_str("an update job"),
+        Ok(JobKind::Long) => f.write_str("a long job"),
+        Err(_) => write!(f, "a job of kind {kind}"),
     }
 }
 
-fn print_read(rt: HostRuntime, frame: &[u8]) -> io::Result<()> {
+fn write_read<W: fmt::Write>(f: &mut fmt::Formatter<W>, frame: &[u8]) -> fmt::Result {
     match frame {
-        [_, class, bay, other, item] => print!(rt;
+        [_, class, bay, other, item] => write!(
+            f,
             "class {class}, bay {bay} reads item {item} of class {other}"
         ),
-        _ => print!(rt; "read, in {} bytes", frame.len()),
+        _ => write!(f, "read, in {} bytes", frame.len()),
     }
 }
 
-fn print_write(rt: HostRuntime, kinds: Option<KindsChosen>, frame: &[u8]) -> io::Result<()> {
-    if frame.len() <= WRITE_HEAD {
-        return print!(rt; "write, in {} bytes", frame.len());
+fn write_write<W: fmt::Write>(
+    f: &mut fmt::Formatter<W>,
+    kind: Option<ValueKind>,
+    frame: &[u8],
+) -> fmt::Result {
+    match frame {
+        [_, class, bay, item, _, ..] => {
+            let value = ValueTold::new(kind, &frame[4..]);
+            write!(f, "class {class}, bay {bay} writes {value} to item {item}")
+        }
+        _ => write!(f, "write, in {} bytes", frame.len()),
     }
-    let class = frame[1];
-    let bay = frame[2];
-    let item = frame[3];
-    print!(rt; "class {class}, bay {bay} writes ")?;
-    print_value(rt, kinds, &frame[WRITE_HEAD..])?;
-    print!(rt; " to item {item}")
 }
 
 // Commit and give up.
-fn print_end(rt: HostRuntime, frame: &[u8], does: &str, call: &str) -> io::Result<()> {
+fn write_end<W: fmt::Write>(
+    f: &mut fmt::Formatter<W>,
+    frame: &[u8],
+    does: &str,
+    call: &str,
+) -> fmt::Result {
     match frame {
-        [_, class, bay] => print!(rt; "class {class}, bay {bay} {does}"),
-        _ => print!(rt; "{call}, in {} bytes", frame.len()),
+        [_, class, bay] => write!(f, "class {class}, bay {bay} {does}"),
+        _ => write!(f, "{call}, in {} bytes", frame.len()),
     }
 }
 
-fn print_tick(rt: HostRuntime, frame: &[u8]) -> io::Result<()> {
+fn write_tick<W: fmt::Write>(f: &mut fmt::Formatter<W>, frame: &[u8]) -> fmt::Result {
     match frame {
-        [_] => print!(rt; "tick"),
-        _ => print!(rt; "tick, in {} bytes", frame.len()),
+        [_] => f.write_str("tick"),
+        _ => write!(f, "tick, in {} bytes", frame.len()),
     }
 }
 
-pub fn print_job(
-    rt: HostRuntime,
-    kinds: Option<KindsChosen>,
+pub fn write_job<W: fmt::Write>(
+    f: &mut fmt::Formatter<W>,
+    kind: Option<ValueKind>,
     job: JobOperation,
     frame: &[u8],
-) -> io::Result<()> {
+) -> fmt::Result {
     match job {
-        JobOperation::Begin => print_begin(rt, frame),
-        JobOperation::Read => print_read(rt, frame),
-        JobOperation::Write => print_write(rt, kinds, frame),
-        JobOperation::Commit => print_end(rt, frame, "commits", "commit"),
-        JobOperation::GiveUp => print_end(rt, frame, "gives up", "give up"),
-        JobOperation::Tick => print_tick(rt, frame),
+        JobOperation::Begin => write_begin(f, frame),
+        JobOperation::Read => write_read(f, frame),
+        JobOperation::Write => write_write(f, kind, frame),
+        JobOperation::Commit => write_end(f, frame, "commits", "commit"),
+        JobOperation::GiveUp => write_end(f, frame, "gives up", "give up"),
+        JobOperation::Tick => write_tick(f, frame),
     }
 }

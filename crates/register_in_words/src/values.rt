@@ -1,53 +1,43 @@
 // Values in words.
-use crate::kinds_chosen::KindsChosen;
-use cells::slip::{Slip, SlipState};
+use cells::slip::Slip;
 use cells::value::Value;
 use lines::kinds::ValueKind;
-use std::io;
+use std::fmt;
 
-fn state_name(state: SlipState) -> &'static str {
-    match state {
-        SlipState::Received => "received",
-        SlipState::Reflashed => "reflashed",
-        SlipState::SentBack => "sent back",
+// Bytes as a value of the kind that was chosen; bytes that are no value by their number.
+#[derive(Clone, Copy)]
+pub struct ValueTold<'a> {
+    kind: Option<ValueKind>,
+    bytes: &'a [u8],
+}
+
+impl<'a> ValueTold<'a> {
+    pub fn new(kind: Option<ValueKind>, bytes: &'a [u8]) -> ValueTold<'a> {
+        ValueTold { kind, bytes }
+    }
+
+    // The value, where this kind was chosen.
+    fn read_as<V: Value>(&self, kind: ValueKind) -> Option<V> {
+        if self.kind != Some(kind) {
+            return None;
+        }
+        V::read(self.bytes)
     }
 }
 
-fn print_word(rt: HostRuntime, bytes: &[u8]) -> io::Result<()> {
-    match u32::read(bytes) {
-        Some(word) => print!(rt; "{word}"),
-        None => print!(rt; "{} bytes", bytes.len()),
-    }
-}
-
-fn print_slip(rt: HostRuntime, bytes: &[u8]) -> io::Result<()> {
-    match Slip::read(bytes) {
-        Some(
-            Slip {
+impl fmt::Display for ValueTold<'_> {
+    fn fmt<W: fmt::Write>(&self, f: &mut fmt::Formatter<W>) -> fmt::Result {
+        if let Some(word) = self.read_as::<u32>(ValueKind::Words) {
+            write!(f, "{word}")
+        } else if let Some(slip) = self.read_as::<Slip>(ValueKind::Slips) {
+            let Slip {
                 serial,
                 fault,
                 state,
-            },
-        ) => print!(rt; "probe {serial}, fault {fault}, {}", state_name(state)),
-        None => print!(rt; "{} bytes", bytes.len()),
-    }
-}
-
-// Bytes as a value of the kind that was chosen; bytes that are no value by their number.
-pub fn print_value(rt: HostRuntime, kinds: Option<KindsChosen>, bytes: &[u8]) -> io::Result<()> {
-    match kinds {
-        Some(
-            KindsChosen {
-                order: _,
-                values: ValueKind::Words,
-            },
-        ) => print_word(rt, bytes),
-        Some(
-            KindsChosen {
-                order: _,
-                values: ValueKind::Slips,
-            },
-        ) => print_slip(rt, bytes),
-        None => print!(rt; "{} bytes", bytes.len()),
+            } = slip;
+            write!(f, "probe {serial}, fault {fault}, {state}")
+        } else {
+            write!(f, "{} bytes", self.bytes.len())
+        }
     }
 }

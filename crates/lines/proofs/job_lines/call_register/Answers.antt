@@ -1,89 +1,63 @@
-use Rattle.std.proofs.Common.{ap}
-use Rattle.jobs.specs.Requests.{to_write, to_commit}
+use Rattle.std.proofs.Common.{◌≡◌, false, refl, ap, ◌∙◌, rules, arith}
+use Rattle.jobs.specs.Requests.{to_commit}
+use Rattle.lines.specs.JobFrames.{right_length}
 use Rattle.lines.specs.Operations.{byte}
-use Rattle.lines.specs.JobLines.{request_of}
-use Rattle.lines.specs.declared.operation.JobOperation.{JobOperation}
-use Rattle.lines.specs.declared.operation.JobOperation.TheVariants.{Begin, Read, GiveUp, Tick}
-use Rattle.lines.proofs.ServedCalls.{asks_write, serves_done, serves_refusal, frame_leads}
-use Rattle.lines.proofs.WithinNeeds.{write_within, commit_within}
+use Rattle.lines.specs.Replies.{reply_bytes}
+use Rattle.lines.specs.declared.operation.JobOperation.TheVariants.{Commit}
+use Rattle.lines.proofs.ServedCalls.{call_served, refusal_served, wrong_served}
+use Rattle.lines.proofs.WithinNeeds.{commit_within}
 use Rattle.lines.proofs.job_lines.call_register.Goals as goal
+use Rattle.lines.proofs.job_lines.call_register.Goals.{in_default-via-in-Begin+then-frame-lt4, in_default-via-in-Begin+else-frame-lt4+else-this-lt5, in_default-via-in-Read+then-this-lt5-2, in_default-via-in-Read+else-this-lt5-2+else-this-lt6, in_default-via-in-Write+then-this-lt4, in_default-via-in-Write-len4-up+else-value-WIDTH, in_default-via-in-Commit+then-this-lt3, in_default-via-in-Commit+else-this-lt3+else-this-lt4-2, in_default-via-in-GiveUp+then-this-lt3-2, in_default-via-in-GiveUp+else-this-lt3-2+else-this-lt4-3, in_default-via-in-Tick+then-this-lt1, in_default-via-in-Tick+else-this-lt1+else-this-lt2}
 
-pub returns-in_err-write-in-Write : goal.returns-in_err-write-in-Write
-returns-in_err-write-in-Write g c =
+pub returns-in_err-commit-in-Commit-len3 : goal.returns-in_err-commit-in-Commit-len3
+returns-in_err-commit-in-Commit-len3 g c =
     let o = g.O.ClassOrder in
     let v = g.V.Value in
     let r = g.R.LocalRule in
     let x = c.args.register.now in
     let m = c.args.memory.now in
     let frame = c.args.frame.now in
-    let x' = c.write.new.self in
-    let m' = c.write.new.memory in
-    let request = to_write (byte 1 frame) (byte 2 frame) (byte 3 frame) c.read-value.result in
-    let asks = asks_write v c.args.job frame c.read-value.result c.in-Write.is c.read-value.ensures in
-    let z = serves_refusal o v r x m request (request_of v c.args.job frame) asks x' m' c.write.ensures.state
-    c.in_err-write-in-Write.field-0.0 c.from_residual-in_err-write-in-Write.result c.from_residual-in_err-write-in-Write.ensures.1 c.in_err-write-in-Write.ensures.reply in
-    record { reply = z.0; state = z.1; memory = write_within o v r x m m' (byte 1 frame) (byte 2 frame) c.write.ensures.bay_memory }
+    let class = byte 1 frame in
+    let bay = byte 2 frame in
+    record {
+      served = refusal_served o v r x m c.args.job Commit frame c.in-Commit-len3.is-0 (omega (arith, c.in-Commit-len3.len_at_least, c.in-Commit-len3.len_below))
+          (to_commit class bay) refl c.commit.new.self c.commit.new.memory c.commit.ensures.state
+          (commit_within o v r x m c.commit.new.memory class bay c.commit.ensures.bay_memory) c.in_err-commit-in-Commit-len3.field-0.0
+          c.from_residual-in_err-commit-in-Commit-len3.result c.from_residual-in_err-commit-in-Commit-len3.ensures.1 c.in_err-commit-in-Commit-len3.ensures.reply;
+    }
 
-pub returns-in_ok-write-in-Write : goal.returns-in_ok-write-in-Write
-returns-in_ok-write-in-Write g c =
+pub returns-in_ok-commit-in-Commit-len3 : goal.returns-in_ok-commit-in-Commit-len3
+returns-in_ok-commit-in-Commit-len3 g c =
     let o = g.O.ClassOrder in
     let v = g.V.Value in
     let r = g.R.LocalRule in
     let x = c.args.register.now in
     let m = c.args.memory.now in
     let frame = c.args.frame.now in
-    let x' = c.write.new.self in
-    let m' = c.write.new.memory in
-    let request = to_write (byte 1 frame) (byte 2 frame) (byte 3 frame) c.read-value.result in
-    let asks = asks_write v c.args.job frame c.read-value.result c.in-Write.is c.read-value.ensures in
-    let z = serves_done o v r x m request (request_of v c.args.job frame) asks x' m' c.write.ensures.state
-    c.done-in-Write.result c.done-in-Write.ensures.reply c.in_ok-write-in-Write.ensures.reply in
-    record { reply = z.0; state = z.1; memory = write_within o v r x m m' (byte 1 frame) (byte 2 frame) c.write.ensures.bay_memory }
+    let class = byte 1 frame in
+    let bay = byte 2 frame in
+    record {
+      served = call_served o v r x m c.args.job Commit frame c.in-Commit-len3.is-0 (omega (arith, c.in-Commit-len3.len_at_least, c.in-Commit-len3.len_below))
+          (to_commit class bay) refl c.commit.new.self c.commit.new.memory c.commit.ensures.state
+          (commit_within o v r x m c.commit.new.memory class bay c.commit.ensures.bay_memory) c.done-in-Commit-len3.result.items
+          (c.done-in-Commit-len3.ensures.reply ∙ ap (reply_bytes v) c.in_ok-commit-in-Commit-len3.ensures.reply);
+    }
 
-pub returns-in_err-commit-in-Commit : goal.returns-in_err-commit-in-Commit
-returns-in_err-commit-in-Commit g c =
-    let o = g.O.ClassOrder in
-    let v = g.V.Value in
-    let r = g.R.LocalRule in
-    let x = c.args.register.now in
-    let m = c.args.memory.now in
-    let frame = c.args.frame.now in
-    let x' = c.commit.new.self in
-    let m' = c.commit.new.memory in
-    let request = to_commit (byte 1 frame) (byte 2 frame) in
-    let asks = ap (λ (j : JobOperation). request_of v j frame) c.in-Commit.is in
-    let z = serves_refusal o v r x m request (request_of v c.args.job frame) asks x' m' c.commit.ensures.state
-    c.in_err-commit-in-Commit.field-0.0 c.from_residual-in_err-commit-in-Commit.result c.from_residual-in_err-commit-in-Commit.ensures.1 c.in_err-commit-in-Commit.ensures.reply in
-    record { reply = z.0; state = z.1; memory = commit_within o v r x m m' (byte 1 frame) (byte 2 frame) c.commit.ensures.bay_memory }
-
-pub returns-in_ok-commit-in-Commit : goal.returns-in_ok-commit-in-Commit
-returns-in_ok-commit-in-Commit g c =
-    let o = g.O.ClassOrder in
-    let v = g.V.Value in
-    let r = g.R.LocalRule in
-    let x = c.args.register.now in
-    let m = c.args.memory.now in
-    let frame = c.args.frame.now in
-    let x' = c.commit.new.self in
-    let m' = c.commit.new.memory in
-    let request = to_commit (byte 1 frame) (byte 2 frame) in
-    let asks = ap (λ (j : JobOperation). request_of v j frame) c.in-Commit.is in
-    let z = serves_done o v r x m request (request_of v c.args.job frame) asks x' m' c.commit.ensures.state
-    c.done-in-Commit.result c.done-in-Commit.ensures.reply c.in_ok-commit-in-Commit.ensures.reply in
-    record { reply = z.0; state = z.1; memory = commit_within o v r x m m' (byte 1 frame) (byte 2 frame) c.commit.ensures.bay_memory }
-
-pub returns-in_err-begin-in-Begin-clause-state : goal.returns-in_err-begin-in-Begin-clause-state
-returns-in_err-begin-in-Begin-clause-state g c =
-    frame_leads g.O.ClassOrder g.V.Value g.R.LocalRule c.args.register.now c.args.memory.now c.args.job Begin c.args.frame.now c.in-Begin.is c.begin.new.self c.args.memory.now c.begin.ensures.state
-
-pub returns-in_err-value-in-Read-clause-state : goal.returns-in_err-value-in-Read-clause-state
-returns-in_err-value-in-Read-clause-state g c =
-    frame_leads g.O.ClassOrder g.V.Value g.R.LocalRule c.args.register.now c.args.memory.now c.args.job Read c.args.frame.now c.in-Read.is c.read.new.self c.read.new.memory c.read.ensures.state
-
-pub returns-in_err-give_up-in-GiveUp-clause-state : goal.returns-in_err-give_up-in-GiveUp-clause-state
-returns-in_err-give_up-in-GiveUp-clause-state g c =
-    frame_leads g.O.ClassOrder g.V.Value g.R.LocalRule c.args.register.now c.args.memory.now c.args.job GiveUp c.args.frame.now c.in-GiveUp.is c.give_up.new.self c.give_up.new.memory c.give_up.ensures.state
-
-pub returns-in_err-tick-in-Tick-clause-state : goal.returns-in_err-tick-in-Tick-clause-state
-returns-in_err-tick-in-Tick-clause-state g c =
-    frame_leads g.O.ClassOrder g.V.Value g.R.LocalRule c.args.register.now c.args.memory.now c.args.job Tick c.args.frame.now c.in-Tick.is c.tick.new.self c.tick.new.memory c.tick.ensures.state
+pub returns-in_default : goal.returns-in_default
+returns-in_default g c =
+    let wrong : right_length g.V.Value.WIDTH c.args.job c.args.frame.now ≡ false =
+    elim c.in_default.branch [
+      | in_default-via-in-Begin+then-frame-lt4 w ↦ search rules
+      | in_default-via-in-Begin+else-frame-lt4+else-this-lt5 w ↦ search rules
+      | in_default-via-in-Read+then-this-lt5-2 w ↦ search rules
+      | in_default-via-in-Read+else-this-lt5-2+else-this-lt6 w ↦ search rules
+      | in_default-via-in-Write+then-this-lt4 w ↦ search rules
+      | in_default-via-in-Write-len4-up+else-value-WIDTH w ↦ search rules
+      | in_default-via-in-Commit+then-this-lt3 w ↦ search rules
+      | in_default-via-in-Commit+else-this-lt3+else-this-lt4-2 w ↦ search rules
+      | in_default-via-in-GiveUp+then-this-lt3-2 w ↦ search rules
+      | in_default-via-in-GiveUp+else-this-lt3-2+else-this-lt4-3 w ↦ search rules
+      | in_default-via-in-Tick+then-this-lt1 w ↦ search rules
+      | in_default-via-in-Tick+else-this-lt1+else-this-lt2 w ↦ search rules
+    ] in
+    record { served = wrong_served g.O.ClassOrder g.V.Value g.R.LocalRule c.args.register.now c.args.memory.now c.args.job c.args.frame.now wrong }

@@ -1,13 +1,13 @@
 use Rattle.std.proofs.Common.{◌<◌, arith}
-use Rattle.std.proofs.ByRecursion.{All-from_get_or}
+use Rattle.std.proofs.lemmas.List.Elements.{All-from_get_or}
 use Rattle.jobs.specs.Represents.{setting}
 use Rattle.lines.specs.Needs.{needed}
 use Rattle.lines.specs.Replies.{told}
 use Rattle.lines.proofs.ReadBack.{reads_back, same_room}
 use Rattle.lines.proofs.job_lines.serve_job.Goals as goal
 
-pub returns : goal.returns
-returns g c =
+pub returns-clause-laws : goal.returns-clause-laws
+returns-clause-laws g c =
     let o = g.O.ClassOrder in
     let v = g.V.Value in
     let r = g.R.LocalRule in
@@ -16,12 +16,7 @@ returns g c =
     let x' = c.call_register.new.register in
     let m' = c.call_register.new.memory in
     let frame = c.args.frame.now in
-    let done = c.call_register.ensures in
+    let served = c.call_register.ensures.served in
     let bytes = All-from_get_or (λ b. b < 256) frame 0 (λ k h. omega (arith, c.type_inv.frame k)) in
-    record {
-      reply = done.reply;
-      state = done.state;
-      memory = done.memory;
-      laws = reads_back v g.met.V.Value.encodes o r g.met.O.ClassOrder.reflexive x x' m m' (same_room (needed (setting o v r x)) m m' done.memory)
-          c.args.job frame (told c.call_register.result) bytes done.reply done.state;
-    }
+    reads_back v g.met.V.Value.encodes o r g.met.O.ClassOrder.reflexive x x' m m' (same_room (needed (setting o v r x)) m m' served.memory)
+    c.args.job frame (told c.call_register.result) bytes served

@@ -25,8 +25,7 @@ returns g c =
       antisymmetric = g.met.O.ClassOrder.antisymmetric;
       transitive = g.met.O.ClassOrder.transitive;
       monotone = g.met.O.ClassOrder.monotone;
-      readers = g.met.R.LocalRule.readers;
-      writers = g.met.R.LocalRule.writers;
+      rivals = g.met.R.LocalRule.rivals;
     } in
     let made = c.in_ok-register.ensures in
     let done = c.in_ok-fill.ensures in

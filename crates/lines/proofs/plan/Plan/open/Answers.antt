@@ -1,10 +1,9 @@
-use Rattle.std.proofs.Common.{◌≡◌, ◌-◌, take, Some, Ok, Err, Result, sym, ap, ◌∙◌, subst, arith}
+use Rattle.std.proofs.Common.{Some, Ok, Err, Result, sym, ap, ◌∙◌, subst}
 use Rattle.std.proofs.lemmas.Result.{err_from_is_err_and}
 use Rattle.orders.specs.contracts.chosen_order.ChosenOrderClassOrder.TheImpl.{ghosts as orders}
 use Rattle.orders.specs.declared.chosen_order.ChosenOrder.{ChosenOrder}
-use Rattle.rules.specs.contracts.chosen_rule.ChosenRuleLocalRule.TheImpl.{ghosts as rules}
+use Rattle.rules.specs.ChosenRules.{chosen_rule as rules}
 use Rattle.laws.specs.Setting.{Setting}
-use Rattle.register_parts.specs.CheckedCounts.{said}
 use Rattle.jobs.specs.declared.register.Register.{Register}
 use Rattle.lines.specs.Drafts.{drafted}
 use Rattle.lines.specs.FreshRegisters.{set_up_with, Opened}
@@ -12,24 +11,18 @@ use Rattle.lines.specs.JobLines.{room_of}
 use Rattle.lines.specs.Openings.{fault_in, OpenedIf}
 use Rattle.lines.specs.Plans.{draft_of}
 use Rattle.lines.specs.declared.line_fault.LineFault.{LineFault}
-use Rattle.lines.specs.declared.plan.Plan.{Plan}
 use Rattle.lines.proofs.PlannedRegisters.{plan_in_range, plan_setting, opening_fault_is}
 use Rattle.lines.proofs.plan.Plan.open.Goals as goal
 
--- The records that are handed on are those of the plan's classes.
-handed_on : (p : Plan) → said (take (p.count - 0) p.records) ≡ (draft_of p).items
-handed_on p = let n : p.count - 0 ≡ p.count = omega arith in ap (λ k. said (take k p.records)) n
-
 pub open_register-requires : goal.open_register-requires
-open_register-requires g c = plan_in_range c.args.self c.unwrap-order.result c.unwrap-order.ensures (said (take (c.args.self.count - 0) c.args.self.records)) (handed_on c.args.self)
+open_register-requires g c = plan_in_range c.args.self c.in-Classes.order c.in-Classes.is
 
 pub returns-in_err-register : goal.returns-in_err-register
 returns-in_err-register g c =
     let p = c.args.self in
     let v = g.V.Value in
-    let items = said (take (p.count - 0) p.records) in
-    let S = set_up_with orders v rules c.unwrap-order.result items c.args.variant in
-    let so = plan_setting p c.unwrap-order.result c.unwrap-order.ensures items (handed_on p) v c.args.variant in
+    let S = set_up_with orders v rules c.in-Classes.order (draft_of p).items c.args.variant in
+    let so = plan_setting p c.in-Classes.order c.in-Classes.is v c.args.variant in
     let e = err_from_is_err_and c.from_residual.result c.from_residual.ensures.1 in
     let done = c.in_err-register.ensures in
     record {
@@ -43,9 +36,8 @@ pub returns : goal.returns
 returns g c =
     let p = c.args.self in
     let v = g.V.Value in
-    let items = said (take (p.count - 0) p.records) in
-    let S = set_up_with orders v rules c.unwrap-order.result items c.args.variant in
-    let so = plan_setting p c.unwrap-order.result c.unwrap-order.ensures items (handed_on p) v c.args.variant in
+    let S = set_up_with orders v rules c.in-Classes.order (draft_of p).items c.args.variant in
+    let so = plan_setting p c.in-Classes.order c.in-Classes.is v c.args.variant in
     let done = c.in_ok-register.ensures in
     record {
       reply = opening_fault_is (room_of c.args.memory.now) S (drafted v (draft_of p) c.args.variant) c.args.variant (Ok tt) done.reply so;
