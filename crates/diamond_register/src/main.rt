@@ -64,6 +64,7 @@ fn main(rt: HostRuntime) -> io::Result<()> {
     let Some(rule) = Exclusive::fresh(0) else {
         return println!(rt; "no such variant");
     };
+    // Without a heap the arrays live where they are lent.
     let mut cells = [Cell::<u32>::starting(); 5];
     let mut pending = [0u32; 256];
     let mut rules = [rule; 4];

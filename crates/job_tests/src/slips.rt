@@ -18,6 +18,7 @@ fn one_class() -> Option<Register<DrawnOrder>> {
 
 pub fn slips(rt: HostRuntime, rule: ChosenRule) -> io::Result<()> {
     println!(rt; "Bytes that are no slip: 15")?;
+    // Without a heap the arrays live where they are lent.
     let mut cells = [Cell::<Slip>::starting(); 1];
     let mut pending = [Slip::start(); 64];
     let mut rules = [rule; 1];

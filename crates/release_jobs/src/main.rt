@@ -51,6 +51,7 @@ fn stations(scene: &mut Scene<'_>) -> io::Result<()> {
 
 // Plays both scenes on a register that is set up, in memory of its own.
 fn play(rt: HostRuntime, register: Register<DrawnOrder>, rule: Locks) -> io::Result<()> {
+    // Without a heap the arrays live where they are lent.
     let mut cells = [Cell::<u32>::starting(); 3];
     let mut pending = [0u32; 128];
     let mut rules = [rule; 2];
