@@ -17,7 +17,7 @@ use line_told::LineTold;
 use lines::served::{REPLY_ROOM, Served};
 use lines::session::Session;
 use lines::supplied::Supplied;
-use register_io::input::{LIMIT, read_input};
+use register_io::input::{LIMIT, read_within};
 use register_io::memory::with_memory;
 use std::io;
 
@@ -47,7 +47,7 @@ fn tell_all(rt: &HostRuntime, supplied: &mut Supplied<'_>, input: &[u8]) -> io::
 }
 
 fn main(rt: HostRuntime) -> io::Result<()> {
-    let Some(input) = read_input(&rt, LIMIT)? else {
+    let Some(input) = read_within(&rt, LIMIT)? else {
         return println!(rt; "more than {LIMIT} bytes of input: refused with 1 by the line");
     };
     with_memory(|supplied| tell_all(&rt, supplied, &input))

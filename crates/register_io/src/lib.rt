@@ -5,5 +5,6 @@ pub mod input;
 pub mod memory;
 pub mod replies;
 
-pub use crate::input::{LIMIT, read_input};
+pub use crate::input::{LIMIT, read_input, read_within};
+pub use crate::memory::{CELLS, PENDING, RULES};
 pub use crate::replies::run;

@@ -14,11 +14,11 @@ use rules::chosen_rule::ChosenRule;
 use rules::local_rule::LocalRule;
 
 // A cell for each of 256 items, and for each of 16 classes 64 places for pending values and a rule.
-const CELLS: usize = 256;
+pub const CELLS: usize = 256;
 
-const PENDING: usize = 1024;
+pub const PENDING: usize = 1024;
 
-const RULES: usize = 16;
+pub const RULES: usize = 16;
 
 // What `serve` does with such memory. It has to be callable: no function can call a closure without asking so.
 pub fn with_memory<T, F: FnOnce(&mut Supplied<'_>) -> T>(serve: F) -> T

@@ -1,5 +1,5 @@
 // The program `register`: the replies to the lines of standard input.
-use crate::input::{LIMIT, read_input};
+use crate::input::{LIMIT, read_within};
 use crate::memory::with_memory;
 use lines::served::Served;
 use lines::session::Session;
@@ -29,7 +29,7 @@ fn serve_all(rt: &HostRuntime, supplied: &mut Supplied<'_>, input: &[u8]) -> io:
 
 // Input past the limit gets the one line of a malformed line.
 pub fn run(rt: HostRuntime) -> io::Result<()> {
-    let Some(input) = read_input(&rt, LIMIT)? else {
+    let Some(input) = read_within(&rt, LIMIT)? else {
         return println!(rt; "01");
     };
     with_memory(|supplied| serve_all(&rt, supplied, &input))
