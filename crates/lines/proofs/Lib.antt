@@ -4,6 +4,7 @@ pub mod MeetingAnswers
 pub mod SessionPhases
 pub mod Starting
 pub mod SessionStart
+pub mod StageOrder
 pub mod NeedsGrow
 pub mod Running
 pub mod WrittenReplies

@@ -11,7 +11,6 @@ use crate::line_fault::LineFault;
 use crate::operation::Operation;
 use crate::replies::{self, ReplyBytes};
 use crate::session::Session;
-use crate::set_up_frames::choose;
 use crate::stage::Stage;
 use crate::supplied::Supplied;
 use frames::decode::decode;
@@ -49,13 +48,17 @@ impl Session {
     ) -> Result<ReplyBytes, LineFault>
         ensures answer { Meets (phase_of self.old supplied.old) supplied.old (in_phase (rooms_of supplied.old) (phase_of self.old supplied.old) operation frame.now) (told result) (phase_of self.new supplied.new) supplied.new }
     {
-        self.stage = match &mut self.stage {
-            Stage::Opening => choose(operation, frame)?,
-            Stage::Planning(plan) => plan.go_on(supplied, operation, frame)?,
-            Stage::Serving { values, register } => {
+        match operation {
+            Operation::Choose => self.stage.choose(frame)?,
+            Operation::AddClass => self.stage.add_class(frame)?,
+            Operation::Start => self.stage.start(supplied, frame)?,
+            Operation::Job(_) => {
+                let Stage::Serving { values, register } = &mut self.stage else {
+                    return Err(LineFault::OutOfOrder);
+                };
                 return serve_frame(*values, register, supplied, operation, frame);
             }
-        };
+        }
         Ok(replies::done())
     }
 

@@ -1,51 +1,77 @@
 // Frames of set-up: each leads to the next stage, or is refused and changes nothing.
+// A stage has room for a register. So each operation changes it in a function of its own, which is not inlined: whoever answers
+// a line would make that room for every line.
 ghost use Rattle.std.specs.Prelude.{◌≡◌};
-ghost use Rattle.lines.specs.Answers.{SetUpAnswered};
-ghost use Rattle.lines.specs.Phases.{opening as awaiting_choice, planning, in_opening, class_answer, start_answer, rule_answer, in_planning};
+ghost use Rattle.lines.specs.Answers.{SetUpAnswered, PlanAnswered, StageAnswered};
+ghost use Rattle.lines.specs.Phases.{opening as awaiting_choice, planning, in_opening, class_answer, start_answer, rule_answer};
 ghost use Rattle.lines.specs.Plans.{draft_of};
 ghost use Rattle.lines.specs.Supplies.{rooms_of};
+ghost use Rattle.lines.specs.declared.operation.Operation.TheVariants.{Choose, AddClass, Start};
 ghost use Rattle.lines.specs.declared.supplied.Supplied.{Supplied as supplied_memory};
 
 use crate::kinds::ValueKind;
 use crate::line_fault::LineFault;
-use crate::operation::Operation;
 use crate::plan::Plan;
 use crate::stage::Stage;
 use crate::supplied::Supplied;
 
-// At first only the choice of kinds is awaited.
-pub(crate) fn choose(operation: Operation, frame: &[u8]) -> Result<Stage, LineFault>
-    ensures answer { (m : supplied_memory) → SetUpAnswered awaiting_choice m (in_opening operation frame.now) result m }
+impl Stage {
+    // At first only the choice of kinds is awaited.
+    #[inline(never)]
+    pub(crate) fn choose(&mut self, frame: &[u8]) -> Result<(), LineFault>
+        ensures answer { (m : supplied_memory) → StageAnswered Choose frame.now self.old m result self.new m }
+    {
+        let Stage::Opening = self else {
+            return Err(LineFault::OutOfOrder);
+        };
+        let plan = first_plan(frame)?;
+        *self = Stage::Planning(plan);
+        Ok(())
+    }
+
+    // Then the classes are awaited.
+    #[inline(never)]
+    pub(crate) fn add_class(&mut self, frame: &[u8]) -> Result<(), LineFault>
+        ensures answer { (m : supplied_memory) → StageAnswered AddClass frame.now self.old m result self.new m }
+    {
+        let Stage::Planning(plan) = self else {
+            return Err(LineFault::OutOfOrder);
+        };
+        *plan = plan.add_class(frame)?;
+        Ok(())
+    }
+
+    // Once all classes are there, the rule is chosen.
+    #[inline(never)]
+    pub(crate) fn start(
+        &mut self,
+        supplied: &mut Supplied<'_>,
+        frame: &[u8],
+    ) -> Result<(), LineFault>
+        ensures answer { StageAnswered Start frame.now self.old supplied.old result self.new supplied.new }
+    {
+        let Stage::Planning(plan) = self else {
+            return Err(LineFault::OutOfOrder);
+        };
+        *self = plan.start(supplied, frame)?;
+        Ok(())
+    }
+}
+
+// The plan that a choice of kinds begins.
+fn first_plan(frame: &[u8]) -> Result<Plan, LineFault>
+    ensures answer { (m : supplied_memory) → PlanAnswered awaiting_choice m (in_opening Choose frame.now) result }
 {
-    let Operation::Choose = operation else {
-        return Err(LineFault::OutOfOrder);
-    };
     let [_, order, values, classes] = frame else {
         return Err(LineFault::WrongLength);
     };
-    let plan = Plan::choose(*order, *values, *classes)?;
-    Ok(Stage::Planning(plan))
+    Plan::choose(*order, *values, *classes)
 }
 
 impl Plan {
-    // Then the classes are awaited and, once all are there, the rule.
-    pub(crate) fn go_on(
-        self,
-        supplied: &mut Supplied<'_>,
-        operation: Operation,
-        frame: &[u8],
-    ) -> Result<Stage, LineFault>
-        ensures answer { SetUpAnswered (planning (draft_of self)) supplied.old (in_planning (rooms_of supplied.old) (draft_of self) operation frame.now) result supplied.new }
-    {
-        match operation {
-            Operation::AddClass => self.add_class(frame),
-            Operation::Start => self.start(supplied, frame),
-            _ => Err(LineFault::OutOfOrder),
-        }
-    }
-
-    fn add_class(self, frame: &[u8]) -> Result<Stage, LineFault>
-        ensures answer { (m : supplied_memory) → SetUpAnswered (planning (draft_of self)) m (class_answer (draft_of self) frame.now) result m }
+    // The plan with the class that a frame adds.
+    fn add_class(self, frame: &[u8]) -> Result<Plan, LineFault>
+        ensures answer { (m : supplied_memory) → PlanAnswered (planning (draft_of self)) m (class_answer (draft_of self) frame.now) result }
     {
         if self.is_complete() {
             return Err(LineFault::OutOfOrder);
@@ -53,8 +79,7 @@ impl Plan {
         let [_, class, high, low, items] = frame else {
             return Err(LineFault::WrongLength);
         };
-        let plan = self.with_class(*class, [*high, *low], *items)?;
-        Ok(Stage::Planning(plan))
+        self.with_class(*class, [*high, *low], *items)
     }
 
     // Chooses the rule.
