@@ -30,11 +30,21 @@ impl Exclusive {
     }
 }
 
+// What is left of a hold, if there is one, once the bay holds nothing any more.
+fn without(held: Option<Hold>, bay: u8) -> Option<Hold>
+    ensures { result ≡ released_by bay held }
+{
+    held.and_then(|hold| hold.released(bay))
+}
+
 // The bay holds nothing any more.
 fn release_all(holds: &mut [Option<Hold>; ITEMS as usize], bay: u8)
     ensures { holds.new ≡ map (released_by bay) holds.old }
 {
-    *holds = holds.map(|held| held.and_then(|hold| hold.released(bay)));
+    // In place: an array's `map` makes the whole table anew, and took more than three times as long.
+    for held in holds.iter_mut() {
+        *held = without(*held, bay);
+    }
 }
 
 impl LocalRule for Exclusive {

@@ -1,9 +1,9 @@
 -- Writing over the first elements of a list.
-use Rattle.std.proofs.Common.{◌≡◌, ℕ, zero, suc, ◌+◌, ◌-◌, ◌<◌, ◌≤◌, ltb, List, [], ◌∷◌, ◌++◌, length, get_or, take, drop, Some, None, Option, sym, ap, ◌∙◌, subst, arith}
-use Rattle.std.proofs.lemmas.List.{length-take, length-drop, length-append, get_or_append_left, get_or-append_right, get_or-drop}
+use Rattle.std.proofs.Common.{◌≡◌, ℕ, zero, suc, ◌+◌, ◌-◌, ◌<◌, ◌≤◌, ltb, List, [], ◌∷◌, ◌++◌, length, set, get_or, take, drop, Some, None, Option, sym, refl, ap, ◌∙◌, subst, ⊎_elim, arith}
+use Rattle.std.proofs.lemmas.List.{length-take, length-drop, length-append, length-set, get_or-set_same, get_or-set_other, get_or_append_left, get_or-append_right, get_or-drop}
 use Rattle.std.specs.List.{FoldsTo}
 use Rattle.std.specs.Option.{option_map}
-use Rattle.std.proofs.lemmas.Bool.{cond-true, lt-ltb}
+use Rattle.std.proofs.lemmas.Bool.{cases_eq, cond-true, lt-ltb}
 use Rattle.rules.specs.Claims.{no_claims}
 use Rattle.rules.specs.Calls.{fresh_claims}
 use Rattle.rules.specs.declared.local_rule.LocalRule.{Ghosts as RuleGhosts}
@@ -17,6 +17,20 @@ module _ {F X : Type 0} (step : F → X → F → Type 0) (P : X → Type 0) (f 
   each_made (x ∷ xs) last z (suc k) l d = each_made xs last (subst (λ (g : F). FoldsTo step g xs last) (stays x z.0 z.1).1 z.2) k (omega arith) d
 
 module _ {X : Type 0} (P : X → Type 0) (old : List X) where
+  -- A loop that writes over them one by one.
+  pub overwritten_none : Overwritten P 0 old old
+  overwritten_none = record { length_is = refl; first = λ k h d. absurd (omega arith); others = λ k h d. refl }
+
+  pub overwritten_next : (now : List X) (i : ℕ) (y : X) → i < length old → Overwritten P i old now → P y → Overwritten P (i + 1) old (set now i y)
+  overwritten_next now i y l w p = record {
+    length_is = length-set now i y ∙ w.length_is;
+    first = λ k h d. ⊎_elim
+        (λ (e : k ≡ i). subst P (sym (rw e (get_or-set_same now i y d (omega (arith, w.length_is))))) p)
+        (λ (n : k ≡ i → ⊥). subst P (sym (get_or-set_other now i k y d n)) (w.first k (omega (arith, n)) d))
+        (cases_eq k i);
+    others = λ k h d. get_or-set_other now i k y d (λ e. absurd (omega arith)) ∙ w.others k (omega arith) d;
+  }
+
   -- Other first elements, behind which the old ones stand.
   pub overwritten_front : (front : List X) (n : ℕ) → n ≤ length old → length front ≡ length (take n old)
       → ((k : ℕ) → k < length front → (d : X) → P (get_or front k d)) → Overwritten P n old (front ++ drop n old)

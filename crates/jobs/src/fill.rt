@@ -3,12 +3,11 @@ ghost use Rattle.std.specs.Prelude.{◌≡◌};
 ghost use Rattle.jobs.specs.Represents.{enough};
 ghost use Rattle.jobs.specs.Fill.{fill_reply, FilledWhen, StandsFilled};
 
-use crate::fill_memory::{fill_first, fresh_rule, has_variant};
+use crate::fill_memory::{fill_cells, fill_first, fill_rules, has_variant};
 use crate::first_cell::first_cell;
 use crate::memory::Memory;
 use crate::pending_memory::PENDING_PLACES;
 use crate::register::Register;
-use cells::cell::Cell;
 use cells::value::Value;
 use orders::class_order::ClassOrder;
 use register_parts::setup_fault::SetUpFault;
@@ -31,17 +30,13 @@ impl<O: ClassOrder> Register<O> {
             return Err(SetUpFault::TooLittleMemory);
         }
         let classes = self.order.classes();
-        fill_first(memory.cells, first_cell(&self.counts, classes), || {
-            Cell::starting()
-        });
+        fill_cells(memory.cells, first_cell(&self.counts, classes));
         fill_first(
             memory.pending,
             usize::from(classes) * PENDING_PLACES,
             || V::start(),
         );
-        fill_first(memory.rules, usize::from(classes), || {
-            fresh_rule(self.variant)
-        });
+        fill_rules(memory.rules, usize::from(classes), self.variant);
         Ok(())
     }
 }

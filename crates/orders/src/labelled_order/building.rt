@@ -28,7 +28,9 @@ impl LabelledOrder {
     fn has_label(&self, label: Label) -> bool
         ensures { result ≡ used (labels_of self.now) label }
     {
-        self.labels[..self.count as usize].contains(&label)
+        self.labels[..self.count as usize]
+            .iter()
+            .any(|other| *other == label)
     }
 
     // One more class, with this label.

@@ -23,14 +23,14 @@ returns g c =
     let enough = sym c.if-not-has_enough.ensures.reply in
     let variant = sym c.if-not-has_variant.ensures in
     let filled : FreshMemory o v r x m (record {
-      cells = record { ref_ptr = m.cells.ref_ptr; ghost_name = m.cells.ghost_name; now = c.fill_first.new.places };
-      pending = record { ref_ptr = m.pending.ref_ptr; ghost_name = m.pending.ghost_name; now = c.fill_first-2.new.places };
-      rules = record { ref_ptr = m.rules.ref_ptr; ghost_name = m.rules.ghost_name; now = c.fill_first-3.new.places };
+      cells = record { ref_ptr = m.cells.ref_ptr; ghost_name = m.cells.ghost_name; now = c.fill_cells.new.cells };
+      pending = record { ref_ptr = m.pending.ref_ptr; ghost_name = m.pending.ghost_name; now = c.fill_first.new.places };
+      rules = record { ref_ptr = m.rules.ref_ptr; ghost_name = m.rules.ghost_name; now = c.fill_rules.new.rules };
     }) = record {
       lenders = (refl, refl, refl);
-      cells = overwritten_all (FreshCell v) m.cells.now c.fill_first.new.places (sum_below S.classes S.items) c.fill_first.ensures n (λ y p. search rules);
-      pending = overwritten_all (λ value. value ≡ v.starting) m.pending.now c.fill_first-2.new.places (S.classes * 64) c.fill_first-2.ensures (omega (arith, e)) (λ y p. search rules);
-      rules = overwritten_all (FreshRule r x.variant) m.rules.now c.fill_first-3.new.places S.classes c.fill_first-3.ensures (omega (arith, e)) (λ y p. search rules);
+      cells = overwritten_all (FreshCell v) m.cells.now c.fill_cells.new.cells (sum_below S.classes S.items) c.fill_cells.ensures n (λ y p. p);
+      pending = overwritten_all (λ value. value ≡ v.starting) m.pending.now c.fill_first.new.places (S.classes * 64) c.fill_first.ensures (omega (arith, e)) (λ y p. search rules);
+      rules = overwritten_all (FreshRule r x.variant) m.rules.now c.fill_rules.new.rules S.classes c.fill_rules.ensures (omega (arith, e)) (λ y p. p);
     } in
     record {
       reply = rw (variant, enough);
