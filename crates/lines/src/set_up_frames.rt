@@ -1,6 +1,6 @@
 // Frames of set-up: each leads to the next stage, or is refused and changes nothing.
 // A stage has room for a register. So each operation changes it in a function of its own, which is not inlined: whoever answers
-// a line would make that room for every line.
+// a line would otherwise make that room for every line.
 ghost use Rattle.std.specs.Prelude.{◌≡◌};
 ghost use Rattle.lines.specs.Answers.{SetUpAnswered, PlanAnswered, StageAnswered};
 ghost use Rattle.lines.specs.Phases.{opening as awaiting_choice, planning, in_opening, class_answer, start_answer, rule_answer};
